@@ -7,7 +7,7 @@ use Rattle.std.specs.List.{slice_get}
 use Rattle.std.specs.Io.KnownBytes.{Consumes, IsAtEnd}
 use Rattle.nd_base.proofs.Rising.{rose_later}
 use Rattle.nd_base.specs.declared.octets.Order.{Order}
-use Rattle.nd_base.specs.Over.{Rose, SourceSeen, HasRisen}
+use Rattle.nd_base.specs.Over.{Rose, SourceOver, HasRisen}
 use Rattle.nd_types.specs.declared.interface.Interface.{Interface}
 use Rattle.nd_types.specs.declared.types.Operation.{Operation}
 use Rattle.nd_value.specs.Setting.{Setting}
@@ -25,13 +25,13 @@ use Rattle.command_call.specs.Called as called
 use Rattle.command_call.specs.Called.{IsCall, IsCalled, IsCallCause, IsUnjoined, IsEnd, IsNoEnd, IsNoNumber, IsStubSource, IsStubCause, call_line}
 
 -- a source over one step and then over another
-abbrev pub over : SourceSeen → SourceSeen → SourceSeen
+abbrev pub over : SourceOver → SourceOver → SourceOver
 over s t = record { left = s.left; left_now = t.left_now; ended = t.ended; faults = record { before = s.faults.before; now = t.faults.now } }
 
 -- ## Fragments
 
 -- where fragments are not joined, nothing is printed
-pub unjoined : (s : SourceSeen) (i : Interface) (op : Option ℕ) (r : Refusal) → IsUnjoined (called.wanted op) s r → IsCallCause s i op r
+pub unjoined : (s : SourceOver) (i : Interface) (op : Option ℕ) (r : Refusal) → IsUnjoined (called.wanted op) s r → IsCallCause s i op r
 unjoined s i op Memory h = tt
 unjoined s i op ReadFault h = h
 unjoined s i op (BadPdu place (fragments.Refused why)) h = h
@@ -74,12 +74,12 @@ all_of None n octets all c end e = cc
 all_of (Some xs) None octets all c end e = absurd c
 all_of (Some xs) (Some ys) octets all c end e = sym (append-nil octets) ∙ ap (λ l. octets ++ l) (sym end) ∙ sym c ∙ same_list xs all e
 
-pub stub_printed : (p : SourceSeen) (stub : List ℕ) (w : Setting) (order : Order) (text : List ℕ) → p.left ≡ Some stub → IsPrinted p w order text
+pub stub_printed : (p : SourceOver) (stub : List ℕ) (w : Setting) (order : Order) (text : List ℕ) → p.left ≡ Some stub → IsPrinted p w order text
     → IsDecoding w order stub text
 stub_printed p stub w order text e h =
     subst (λ (l : List ℕ). IsDecoding w order l text) (all_of p.left p.left_now h.octets stub h.whole.taken h.whole.none_left e) h.decoding
 
-pub stub_refused : (p : SourceSeen) (stub : List ℕ) (w : Setting) (order : Order) → IsStubSource p stub → (r : Refusal) → IsInputCause p w order r
+pub stub_refused : (p : SourceOver) (stub : List ℕ) (w : Setting) (order : Order) → IsStubSource p stub → (r : Refusal) → IsInputCause p w order r
     → IsStubCause stub w order r
 stub_refused p stub w order source Memory h = tt
 stub_refused p stub w order source (BadOctets place why) h = (p, source, h)
@@ -101,7 +101,7 @@ stub_refused p stub w order source (NotCompatible differing) h = absurd h
 stub_refused p stub w order source (BadScript row) h = absurd h
 stub_refused p stub w order source LongScript h = absurd h
 
-pub stub_refused_by : (result : Result (List ℕ) Refusal) (p : SourceSeen) (stub : List ℕ) (w : Setting) (order : Order) → IfErr result (IsInputCause p w order)
+pub stub_refused_by : (result : Result (List ℕ) Refusal) (p : SourceOver) (stub : List ℕ) (w : Setting) (order : Order) → IfErr result (IsInputCause p w order)
     → IsStubSource p stub → IfErr result (IsStubCause stub w order)
 stub_refused_by (Ok made) p stub w order h source = tt
 stub_refused_by (Err e) p stub w order h source = stub_refused p stub w order source e h
@@ -116,7 +116,7 @@ no_rise h = omega (arith, h)
 
 -- ## The whole
 
-module _ (s t : SourceSeen) (i : Interface) (op : Option ℕ) (j : Joined) (first : pdu.IsJoined (called.wanted op) s j) (meets : t.left ≡ s.left_now) where
+module _ (s t : SourceOver) (i : Interface) (op : Option ℕ) (j : Joined) (first : pdu.IsJoined (called.wanted op) s j) (meets : t.left ≡ s.left_now) where
   both : (octets : List ℕ) → Consumes t.left t.left_now octets → Consumes s.left t.left_now (first.octets ++ octets)
   both octets taken = Consumes-trans s.left s.left_now t.left_now first.octets octets first.taken (subst (λ l. Consumes l t.left_now octets) meets taken)
 

@@ -4,7 +4,7 @@ use Rattle.std.specs.Prelude.{◌≡◌, ℕ, true, List, [], ◌∷◌, ◌++�
 use Rattle.std.specs.List.{slice_get}
 use Rattle.std.specs.Io.KnownBytes.{Consumes, IsAtEnd}
 use Rattle.nd_base.specs.declared.octets.Order.{Order}
-use Rattle.nd_base.specs.Over.{SourceSeen, HasRisen}
+use Rattle.nd_base.specs.Over.{SourceOver, HasRisen}
 use Rattle.nd_base.specs.Text.{joined}
 use Rattle.nd_types.specs.declared.interface.Interface.{Interface}
 use Rattle.nd_types.specs.declared.types.Operation.{Operation}
@@ -49,7 +49,7 @@ pub record IsCall (i : Interface) (op : Option ℕ) (octets : List ℕ) (order :
   pub known : slice_get i.operations n ≡ Some operation
 
 -- The input is the fragments of one call, whose stub data are decoded; the text of their values is printed after the call id.
-pub record IsCalled (s : SourceSeen) (i : Interface) (op : Option ℕ) (made : List ℕ) : Type 0 where
+pub record IsCalled (s : SourceOver) (i : Interface) (op : Option ℕ) (made : List ℕ) : Type 0 where
   pub octets : List ℕ
   pub whole : IsWhole s octets
   pub order : Order
@@ -64,7 +64,7 @@ pub record IsCalled (s : SourceSeen) (i : Interface) (op : Option ℕ) (made : L
 -- ## Refusals
 
 -- The octets that were taken are the fragments of one call, and one octet more.
-pub record IsTrailed (s : SourceSeen) (want : Wanted) (place : ℕ) : Type 0 where
+pub record IsTrailed (s : SourceOver) (want : Wanted) (place : ℕ) : Type 0 where
   pub octets : List ℕ
   pub next : ℕ
   pub taken : Consumes s.left s.left_now (octets ++ next ∷ [])
@@ -76,7 +76,7 @@ pub record IsTrailed (s : SourceSeen) (want : Wanted) (place : ℕ) : Type 0 whe
   pub place_is : place ≡ length octets
 
 -- The input is the fragments of one request, and the interface has no operation of the number that it states.
-pub record IsOfNoOperation (s : SourceSeen) (i : Interface) (want : Wanted) (place n : ℕ) : Type 0 where
+pub record IsOfNoOperation (s : SourceOver) (i : Interface) (want : Wanted) (place n : ℕ) : Type 0 where
   pub octets : List ℕ
   pub whole : IsWhole s octets
   pub order : Order
@@ -87,18 +87,18 @@ pub record IsOfNoOperation (s : SourceSeen) (i : Interface) (want : Wanted) (pla
   pub place_is : place ≡ 22
 
 -- Stub data as a source of their own, over a call in which it did not fail.
-pub record IsStubSource (p : SourceSeen) (stub : List ℕ) : Type 0 where
+pub record IsStubSource (p : SourceOver) (stub : List ℕ) : Type 0 where
   pub left : p.left ≡ Some stub
   pub reads : HasRisen p.faults → ⊥
 
 -- why stub data are refused; running out of memory needs no cause
 abbrev pub IsStubCause : List ℕ → Setting → Order → Refusal → Type 0
 IsStubCause stub w order Memory = ⊤
-IsStubCause stub w order (BadOctets place why) = (p : SourceSeen) × IsStubSource p stub × IsInputCause p w order (BadOctets place why)
+IsStubCause stub w order (BadOctets place why) = (p : SourceOver) × IsStubSource p stub × IsInputCause p w order (BadOctets place why)
 IsStubCause stub w order _ = ⊥
 
 -- The input is the fragments of one call, and its stub data are refused.
-pub record HasBadStub (s : SourceSeen) (i : Interface) (op : Option ℕ) (place : ℕ) (why : OctetsFault) : Type 0 where
+pub record HasBadStub (s : SourceOver) (i : Interface) (op : Option ℕ) (place : ℕ) (why : OctetsFault) : Type 0 where
   pub octets : List ℕ
   pub whole : IsWhole s octets
   pub order : Order
@@ -109,7 +109,7 @@ pub record HasBadStub (s : SourceSeen) (i : Interface) (op : Option ℕ) (place 
   pub cause : IsStubCause stub (setting_of i operation (side op)) order (BadOctets place why)
 
 -- why the fragments of a source are not printed; running out of memory needs no cause
-abbrev pub IsCallCause : SourceSeen → Interface → Option ℕ → Refusal → Type 0
+abbrev pub IsCallCause : SourceOver → Interface → Option ℕ → Refusal → Type 0
 IsCallCause s i op Memory = ⊤
 IsCallCause s i op ReadFault = HasRisen s.faults
 IsCallCause s i op (BadPdu place (fragments.Refused why)) = pdu.IsRefused (wanted op) s place why
@@ -121,20 +121,20 @@ IsCallCause s i op _ = ⊥
 -- ## The steps
 
 -- why fragments are not joined, as a refusal
-abbrev pub IsUnjoined : Wanted → SourceSeen → Refusal → Type 0
+abbrev pub IsUnjoined : Wanted → SourceOver → Refusal → Type 0
 IsUnjoined want s Memory = ⊤
 IsUnjoined want s ReadFault = HasRisen s.faults
 IsUnjoined want s (BadPdu place (fragments.Refused why)) = pdu.IsRefused want s place why
 IsUnjoined want s _ = ⊥
 
 -- nothing was taken, as the source has ended
-pub record IsEnd (s : SourceSeen) : Type 0 where
+pub record IsEnd (s : SourceOver) : Type 0 where
   pub nothing : Consumes s.left s.left_now []
   pub ended : s.ended ≡ true
   pub none_left : IsAtEnd s.left_now
 
 -- why the end was not met after so many octets: an octet was taken, or the source failed
-abbrev pub IsNoEnd : SourceSeen → ℕ → Refusal → Type 0
+abbrev pub IsNoEnd : SourceOver → ℕ → Refusal → Type 0
 IsNoEnd s taken ReadFault = HasRisen s.faults
 IsNoEnd s taken (BadPdu place fragments.Trailing) = (place ≡ taken) × ((next : ℕ) × Consumes s.left s.left_now (next ∷ []))
 IsNoEnd s taken _ = ⊥

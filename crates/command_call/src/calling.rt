@@ -1,7 +1,7 @@
 // The fragments of a source are joined, and the text of the values of their stub data is printed.
 ghost use Rattle.std.specs.Prelude.{◌≡◌, ◌≤◌, ◌<◌, [], ◌∷◌, ◌++◌, length, Some, None, codes, decimal, IfOk, IfErr, IfSome};
 ghost use Rattle.std.specs.List.{slice_get};
-ghost use Rattle.nd_base.specs.Over.{source_seen};
+ghost use Rattle.nd_base.specs.Over.{source_over};
 ghost use Rattle.nd_base.specs.Text.{joined as joined_text};
 ghost use Rattle.nd_types.specs.declared.types.Operation.{Operation};
 ghost use Rattle.nd_value.specs.Fitting.{setting_of};
@@ -38,8 +38,8 @@ pub fn print_call<S: Source>(
     input: &mut S,
 ) -> Result<Octets, Refusal>
     requires known { IfSome op (λ n. n < length interface.now.operations) }
-    ensures printed { IfOk result (IsCalled (source_seen S.left S.ended S.faults input.old input.new) interface.now op) }
-    ensures refused { IfErr result (IsCallCause (source_seen S.left S.ended S.faults input.old input.new) interface.now op) }
+    ensures printed { IfOk result (IsCalled (source_over S.seen input.old input.new) interface.now op) }
+    ensures refused { IfErr result (IsCallCause (source_over S.seen input.old input.new) interface.now op) }
 {
     let joined = joined_fragments(alloc, op, input)?;
     end(input, joined.taken)?;
@@ -76,9 +76,9 @@ fn joined_fragments<S: Source>(
     input: &mut S,
 ) -> Result<Joined, Refusal>
     ensures number { IfOk result (λ j. HasNumber (wanted_by op) j.opnum) }
-    ensures joined { IfOk result (IsJoined (wanted_by op) (source_seen S.left S.ended S.faults input.old input.new)) }
-    ensures refused { IfErr result (IsUnjoined (wanted_by op) (source_seen S.left S.ended S.faults input.old input.new)) }
-    ensures later { S.faults input.old ≤ S.faults input.new }
+    ensures joined { IfOk result (IsJoined (wanted_by op) (source_over S.seen input.old input.new)) }
+    ensures refused { IfErr result (IsUnjoined (wanted_by op) (source_over S.seen input.old input.new)) }
+    ensures later { (S.seen input.old).faults ≤ (S.seen input.new).faults }
 {
     match join(alloc, wanted(op), input) {
         Ok(joined) => Ok(joined),
@@ -93,8 +93,8 @@ fn joined_fragments<S: Source>(
 
 // The end of a source, after so many octets.
 fn end<S: Source>(input: &mut S, taken: u32) -> Result<(), Refusal>
-    ensures ended { IfOk result (λ _. IsEnd (source_seen S.left S.ended S.faults input.old input.new)) }
-    ensures refused { IfErr result (IsNoEnd (source_seen S.left S.ended S.faults input.old input.new) taken) }
+    ensures ended { IfOk result (λ _. IsEnd (source_over S.seen input.old input.new)) }
+    ensures refused { IfErr result (IsNoEnd (source_over S.seen input.old input.new) taken) }
 {
     let mut next = [0u8];
     match input.fetch(&mut next) {

@@ -16,7 +16,7 @@ use Rattle.command_refusals.specs.declared.refusal.Refusal.{Refusal}
 use Rattle.command_refusals.specs.declared.refusal.Refusal.TheVariants.{Memory}
 use Rattle.command_compile.specs.Idl.{main_file, IsMainFault, IsNameFault, IsDueImport, by_names, reported_fault, name_in, IsDueAfter, IsIdlFault, Means, AreResolved}
 use Rattle.idl_lexer.specs.declared.tokens.LexFault.TheVariants as lexical
-use Rattle.nd_base.specs.Over.{IsContent, IsMissing, Rose, FilesSeen, HasRisen}
+use Rattle.nd_base.specs.Over.{IsContent, IsMissing, Rose, FilesOver, HasRisen}
 use Rattle.command_refusals.specs.declared.refusal.Refusal.TheVariants.{Absent, FileFailed, BadIdl, NoOperation, ReadFault, BadOctets, BadText, BadValue, TooLong, BadRequest, BadLabel, ShortLabel, TooFewEnds, EndFailed}
 use Rattle.command_refusals.specs.declared.refusal.Refusal.TheVariants.{BadPdu, NotCompatible, BadScript, LongScript}
 use Rattle.nd_base.proofs.Rising.{rose_later}
@@ -114,7 +114,7 @@ failed_due held idl text sources n (inr (tree, parsed, inl walk)) =
           (subst (λ k. Walk held (start (main_file idl text)) (all_of 0 tree) (Stopped sources (names.Failed k))) r.number walk);
     })
 
-fault_cause : (f : FilesSeen) (idl text : List ℕ) (acf : Option (List ℕ)) (sources : List Source) (x : NameFault) → IsNameFault f.held idl text sources x
+fault_cause : (f : FilesOver) (idl text : List ℕ) (acf : Option (List ℕ)) (sources : List Source) (x : NameFault) → IsNameFault f.held idl text sources x
     → IsAbsent f.absences.before f.absences.now x → IsFailed f.faults.before f.faults.now x → IsTextCause f idl text acf (reported_fault sources x)
 fault_cause f idl text acf sources names.Memory h a b = tt
 fault_cause f idl text acf sources (names.Unknown p) h a b = by_names sources (names.Unknown p) h refl
@@ -131,7 +131,7 @@ fault_cause f idl text acf sources (names.Syntax n at (parser.Syntax k)) h a b =
 fault_cause f idl text acf sources (names.Syntax n at (parser.Deep k)) h a b = by_names sources (names.Syntax n at (parser.Deep k)) h refl
 fault_cause f idl text acf sources (names.Syntax n at (parser.Banned k)) h a b = by_names sources (names.Syntax n at (parser.Banned k)) h refl
 
-pub text_cause : (f : FilesSeen) (idl text : List ℕ) (acf : Option (List ℕ)) (sources : List Source) (x : NameFault) → IsNameFault f.held idl text sources x
+pub text_cause : (f : FilesOver) (idl text : List ℕ) (acf : Option (List ℕ)) (sources : List Source) (x : NameFault) → IsNameFault f.held idl text sources x
     → IsAbsent f.absences.before f.absences.now x → IsFailed f.faults.before f.faults.now x → (told : Refusal) → IsOrMemory (reported_fault sources x) told
     → IsTextCause f idl text acf told
 text_cause f idl text acf sources x h a b told (inl is) = subst (IsTextCause f idl text acf) (sym is) (fault_cause f idl text acf sources x h a b)
@@ -140,7 +140,7 @@ text_cause f idl text acf sources x h a b told (inr is) = subst (IsTextCause f i
 -- ## Loads
 
 -- what came after an earlier load
-pub after : (f g : FilesSeen) (idl text : List ℕ) (acf : Option (List ℕ)) (r : Refusal) → g.held ≡ f.held → f.absences.before ≤ g.absences.before
+pub after : (f g : FilesOver) (idl text : List ℕ) (acf : Option (List ℕ)) (r : Refusal) → g.held ≡ f.held → f.absences.before ≤ g.absences.before
     → f.absences.now ≡ g.absences.now → f.faults.before ≤ g.faults.before → f.faults.now ≡ g.faults.now → IsTextCause g idl text acf r → IsTextCause f idl text acf r
 after f g idl text acf Memory same low now low' now' cause = tt
 after f g idl text acf (Absent file) same low now low' now' (rose, due, missing) = (
@@ -170,7 +170,7 @@ after f g idl text acf (BadScript row) same low now low' now' cause = absurd cau
 after f g idl text acf LongScript same low now low' now' cause = absurd cause
 
 -- why a main file that was loaded means nothing is why the files do
-loaded_cause : (f : FilesSeen) (idl text : List ℕ) (acf : Option (List ℕ)) (r : Refusal) → IsContent f.held idl text → IsTextCause f idl text acf r → IsIdlCause f idl acf r
+loaded_cause : (f : FilesOver) (idl text : List ℕ) (acf : Option (List ℕ)) (r : Refusal) → IsContent f.held idl text → IsTextCause f idl text acf r → IsIdlCause f idl acf r
 loaded_cause f idl text acf Memory content cause = tt
 loaded_cause f idl text acf (Absent file) content (rose, due, missing) = (rose, inr (text, content, due), missing)
 loaded_cause f idl text acf (FileFailed file) content (rose, due) = (rose, inr (text, content, due))
@@ -192,13 +192,13 @@ loaded_cause f idl text acf (BadScript row) content cause = absurd cause
 loaded_cause f idl text acf LongScript content cause = absurd cause
 
 -- what came after the load of the main file
-pub after_load : (f g : FilesSeen) (idl text : List ℕ) (acf : Option (List ℕ)) (r : Refusal) → IsContent f.held idl text → g.held ≡ f.held
+pub after_load : (f g : FilesOver) (idl text : List ℕ) (acf : Option (List ℕ)) (r : Refusal) → IsContent f.held idl text → g.held ≡ f.held
     → f.absences.before ≤ g.absences.before → f.absences.now ≡ g.absences.now → f.faults.before ≤ g.faults.before → f.faults.now ≡ g.faults.now
     → IsTextCause g idl text acf r → IsIdlCause f idl acf r
 after_load f g idl text acf r content same low now low' now' cause = loaded_cause f idl text acf r content (after f g idl text acf r same low now low' now' cause)
 
 -- a main file that was not loaded is why the files mean nothing
-pub main_not_loaded : (f : FilesSeen) (idl : List ℕ) (acf : Option (List ℕ)) (r : Refusal) → IsLoadCause f idl r → IsIdlCause f idl acf r
+pub main_not_loaded : (f : FilesOver) (idl : List ℕ) (acf : Option (List ℕ)) (r : Refusal) → IsLoadCause f idl r → IsIdlCause f idl acf r
 main_not_loaded f idl acf Memory cause = tt
 main_not_loaded f idl acf (Absent file) (same, rose, missing) = (rose, inl same, subst (IsMissing f.held) (sym same) missing)
 main_not_loaded f idl acf (FileFailed file) (same, rose) = (rose, inl same)
@@ -222,13 +222,13 @@ main_not_loaded f idl acf LongScript cause = absurd cause
 -- ## Names asked for
 
 -- the main file, and what was asked for after it
-pub asks_after : (f g : FilesSeen) (idl : List ℕ) (acf : Option (List ℕ)) → g.held ≡ f.held → g.asked ≡ f.asked ++ idl ∷ [] → f.asked_now ≡ g.asked_now → AsksAfter g idl acf
+pub asks_after : (f g : FilesOver) (idl : List ℕ) (acf : Option (List ℕ)) → g.held ≡ f.held → g.asked ≡ f.asked ++ idl ∷ [] → f.asked_now ≡ g.asked_now → AsksAfter g idl acf
     → AsksFiles f (Some (record { idl = idl; acf = acf }))
 asks_after f g idl acf same first now a =
     (idl ∷ a.rest, now ∙ a.asked ∙ ap (λ l. l ++ a.rest) first ∙ append_assoc f.asked (idl ∷ []) a.rest, subst (λ h. AreAsked h idl acf (idl ∷ a.rest)) same a.are_asked)
 
 -- the main file was loaded, and what is after it means an interface
-pub compiled_after : (f g : FilesSeen) (idl text : List ℕ) (acf : Option (List ℕ)) → IsContent f.held idl text → g.held ≡ f.held → g.asked ≡ f.asked ++ idl ∷ []
+pub compiled_after : (f g : FilesOver) (idl text : List ℕ) (acf : Option (List ℕ)) → IsContent f.held idl text → g.held ≡ f.held → g.asked ≡ f.asked ++ idl ∷ []
     → f.asked_now ≡ g.asked_now → (i : Interface) → MeansAfter g idl text acf i → IsCompiled f idl acf i
 compiled_after f g idl text acf content same first now i m =
     record { file = text; loaded = content; means = moved.0; all_asked = now ∙ m.asked ∙ ap (λ l. l ++ m.rest) first ∙ append_assoc f.asked (idl ∷ []) m.rest ∙ ap (λ l. f.asked ++ l) moved.1 }
@@ -237,7 +237,7 @@ compiled_after f g idl text acf content same first now i m =
     moved = subst (λ h. (x : Means h idl text acf i) × (idl ∷ m.rest ≡ all_due x.state.sources acf)) same (m.means, m.rest_is)
 
 -- names are resolved, and the attribute configuration file was asked for if one is named
-pub resolved_asks : (f : FilesSeen) (idl text : List ℕ) (acf : Option (List ℕ)) (state : State) → IsContent f.held idl text → AreResolved f.held idl text state
+pub resolved_asks : (f : FilesOver) (idl text : List ℕ) (acf : Option (List ℕ)) (state : State) → IsContent f.held idl text → AreResolved f.held idl text state
     → f.asked_now ≡ (f.asked ++ names_of (drop 1 state.sources)) ++ option_to_list acf → AsksAfter f idl acf
 resolved_asks f idl text acf state content resolved now = record {
   rest = names_of (drop 1 state.sources) ++ option_to_list acf;
@@ -245,7 +245,7 @@ resolved_asks f idl text acf state content resolved now = record {
   are_asked = subst (AreAsked f.held idl acf) (sym (all_names f.held idl text content state resolved acf)) (all_asked f.held idl text content state resolved acf);
 }
 
-pub resolved_means : (f : FilesSeen) (idl text : List ℕ) (acf : Option (List ℕ)) (state : State) → IsContent f.held idl text → AreResolved f.held idl text state
+pub resolved_means : (f : FilesOver) (idl text : List ℕ) (acf : Option (List ℕ)) (state : State) → IsContent f.held idl text → AreResolved f.held idl text state
     → f.asked_now ≡ (f.asked ++ names_of (drop 1 state.sources)) ++ option_to_list acf → (i : Interface) → IsJudged f.held idl text acf state i → MeansAfter f idl text acf i
 resolved_means f idl text acf state content resolved now i j = record {
   means = j.means;

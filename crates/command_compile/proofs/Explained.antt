@@ -1,6 +1,6 @@
 -- A refusal with the first place at which an operation differs, if it is of that.
 use Rattle.std.proofs.Common.{◌≡◌, ℕ, Bool, true, false, List, Option, Some, None, Result, Ok, Err, IfOk, refl, sym, ◌∙◌, subst, inl, inr, ◌⊎◌}
-use Rattle.nd_base.specs.Over.{FilesSeen}
+use Rattle.nd_base.specs.Over.{FilesOver}
 use Rattle.nd_types.specs.declared.interface.Interface.{Interface}
 use Rattle.idl_compat.specs.declared.compared.Compared.{Compared}
 use Rattle.idl_compat.specs.declared.compared.Compared.TheVariants as compared
@@ -63,7 +63,7 @@ module _ (i j : Interface) (text : List ℕ) (placed : (k : ℕ) → IsFirst i j
 
 -- ## Why versions are not compatible
 
-module _ (f : FilesSeen) (old new : FileNames) (i j : Interface) (compiled : AreCompiled f old new i j) (x : Incompatible) where
+module _ (f : FilesOver) (old new : FileNames) (i j : Interface) (compiled : AreCompiled f old new i j) (x : Incompatible) where
   incompatible_by : (r : Refusal) → IsRefusal i j r → (p : Option (List ℕ)) → IsBeside f old new r p → x.refusal ≡ r → x.place ≡ p → IsIncompatible f old new x
   incompatible_by r cause p beside e e' =
       record {

@@ -3,7 +3,7 @@ use Rattle.std.proofs.Common.{◌≡◌, ◌∙◌, ℕ, Bool, true, false, eqb,
 use Rattle.idl_grammar.specs.Text.{Depth, Ban}
 use Rattle.idl_grammar.specs.ReadPhrases.{Syntax, Passes}
 use Rattle.nd_base.specs.declared.octets.Place.{Place}
-use Rattle.nd_base.specs.Over.{IsContent, IsMissing, FilesSeen}
+use Rattle.nd_base.specs.Over.{IsContent, IsMissing, FilesOver}
 use Rattle.nd_types.specs.declared.interface.Interface.{Interface}
 use Rattle.idl_lexer.specs.Verdict.{Lexed, place_of, AreTokens, IsVerdict, Refused}
 use Rattle.idl_lexer.specs.declared.tokens.LexKind.{LexKind}
@@ -85,7 +85,7 @@ is_placed s (Some x) rule place = by (eqb place.file acf_file)
     by true = (_, _, _, _, refl)
     by false = (_, _, _, _, refl)
 
-module _ (f : FilesSeen) (idl text : List ℕ) (acf : Option (List ℕ)) (state : State) (resolved : AreResolved f.held idl text state) where
+module _ (f : FilesOver) (idl text : List ℕ) (acf : Option (List ℕ)) (state : State) (resolved : AreResolved f.held idl text state) where
   -- a rule is broken
   pub broken : (beside : Option AcfFile) → IsBeside f.held acf beside → (rule : ℕ) (place : Place)
       → first_of_all (resolved_world state) (tree_beside beside) ≡ Some (breach rule place) → (r : Refusal)
@@ -104,7 +104,7 @@ means_beside held idl text acf state resolved beside read i meaning =
     record { means = record { state = state; resolved = resolved; beside = beside; read = read; meaning = meaning }; state_is = refl }
 
 -- the attribute configuration file was not loaded and read
-module _ (f : FilesSeen) (idl text : List ℕ) (state : State) (resolved : AreResolved f.held idl text state) where
+module _ (f : FilesOver) (idl text : List ℕ) (state : State) (resolved : AreResolved f.held idl text state) where
   acf_refused : (name : List ℕ) (r : Refusal) → IsAcfCause f name r → IsTextCause f idl text (Some name) r
   acf_refused name Memory cause = tt
   acf_refused name (Absent file) (same, rose, missing) =
@@ -133,7 +133,7 @@ module _ (f : FilesSeen) (idl text : List ℕ) (state : State) (resolved : AreRe
   beside_refused (Some name) r cause = acf_refused name r cause
 
 -- a text that is refused is a file that is not read
-pub acf_unread : (f : FilesSeen) (name text : List ℕ) (r : Refusal) → IsContent f.held name text → IsReportedAcf name text r → IsAcfCause f name r
+pub acf_unread : (f : FilesOver) (name text : List ℕ) (r : Refusal) → IsContent f.held name text → IsReportedAcf name text r → IsAcfCause f name r
 acf_unread f name text Memory content cause = tt
 acf_unread f name text (BadIdl file line column why) content cause = (text, content, cause)
 acf_unread f name text (Absent file) content cause = absurd cause
@@ -155,7 +155,7 @@ acf_unread f name text (BadScript row) content cause = absurd cause
 acf_unread f name text LongScript content cause = absurd cause
 
 -- nor one that is not loaded
-pub acf_unloaded : (f : FilesSeen) (name : List ℕ) (r : Refusal) → IsLoadCause f name r → IsAcfCause f name r
+pub acf_unloaded : (f : FilesOver) (name : List ℕ) (r : Refusal) → IsLoadCause f name r → IsAcfCause f name r
 acf_unloaded f name Memory cause = tt
 acf_unloaded f name (Absent file) cause = cause
 acf_unloaded f name (FileFailed file) cause = cause

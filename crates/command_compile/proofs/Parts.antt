@@ -1,7 +1,7 @@
 -- What compiling two files answers, from what compiling each of them answers over its part of the call.
 use Rattle.std.proofs.Common.{◌≡◌, ◌∙◌, ℕ, ◌≤◌, List, ◌++◌, Option, Some, Result, Ok, Err, IfOk, IfErr, refl, ap, subst, inl, inr}
 use Rattle.nd_base.proofs.Rising.{rose_later}
-use Rattle.nd_base.specs.Over.{Rose, IsContent, IsMissing, FilesSeen}
+use Rattle.nd_base.specs.Over.{Rose, IsContent, IsMissing, FilesOver}
 use Rattle.nd_types.specs.declared.interface.Interface.{Interface}
 use Rattle.idl_compat.specs.declared.compared.Compared.{Compared}
 use Rattle.idl_compat.specs.declared.compared.Compared.TheVariants.{Differs}
@@ -19,7 +19,7 @@ abbrev Contents : Type 0
 Contents = Option (List ℕ → Option (List ℕ))
 
 -- files over one part of a call and then over the next
-abbrev pub both_parts : FilesSeen → FilesSeen → FilesSeen
+abbrev pub both_parts : FilesOver → FilesOver → FilesOver
 both_parts f g = record {
   held = f.held;
   asked = f.asked;
@@ -29,7 +29,7 @@ both_parts f g = record {
 }
 
 -- the next part goes on where the first ends
-pub record Follows (f g : FilesSeen) : Type 0 where
+pub record Follows (f g : FilesOver) : Type 0 where
   pub held : g.held ≡ f.held
   pub asked : g.asked ≡ f.asked_now
   pub absences : g.absences.before ≡ f.absences.now
@@ -38,17 +38,17 @@ pub record Follows (f g : FilesSeen) : Type 0 where
   pub absences_later : f.absences.before ≤ f.absences.now
 
 -- what is compiled says nothing of counts
-compiled_as : (f g : FilesSeen) → g.held ≡ f.held → g.asked ≡ f.asked → g.asked_now ≡ f.asked_now → (idl : List ℕ) (acf : Option (List ℕ)) (i : Interface)
+compiled_as : (f g : FilesOver) → g.held ≡ f.held → g.asked ≡ f.asked → g.asked_now ≡ f.asked_now → (idl : List ℕ) (acf : Option (List ℕ)) (i : Interface)
     → IsCompiled g idl acf i → IsCompiled f idl acf i
 compiled_as f g held asked now idl acf i c =
-    let at : List (List ℕ) → List (List ℕ) → Contents → FilesSeen = λ a n h. record { held = h; asked = a; asked_now = n; absences = f.absences; faults = f.faults } in
+    let at : List (List ℕ) → List (List ℕ) → Contents → FilesOver = λ a n h. record { held = h; asked = a; asked_now = n; absences = f.absences; faults = f.faults } in
     let own : IsCompiled (at g.asked g.asked_now g.held) idl acf i = record { file = c.file; loaded = c.loaded; means = c.means; all_asked = c.all_asked } in
     let over : IsCompiled (at g.asked g.asked_now f.held) idl acf i = subst (λ (h : Contents). IsCompiled (at g.asked g.asked_now h) idl acf i) held own in
     let from : IsCompiled (at f.asked g.asked_now f.held) idl acf i = subst (λ (a : List (List ℕ)). IsCompiled (at a g.asked_now f.held) idl acf i) asked over in
     subst (λ (n : List (List ℕ)). IsCompiled (at f.asked n f.held) idl acf i) now from
 
-module _ (f g : FilesSeen) (follows : Follows f g) where
-  abbrev both : FilesSeen
+module _ (f g : FilesOver) (follows : Follows f g) where
+  abbrev both : FilesOver
   both = both_parts f g
 
   first_compiled : (old : FileNames) (i : Interface) → IsCompiled f old.idl old.acf i → IsCompiled (first_part both f.asked_now) old.idl old.acf i
@@ -108,7 +108,7 @@ module _ (f g : FilesSeen) (follows : Follows f g) where
 
 -- ## Causes
 
-module _ (f : FilesSeen) (old new : FileNames) (i j : Interface) (compiled : AreCompiled f old new i j) where
+module _ (f : FilesOver) (old new : FileNames) (i j : Interface) (compiled : AreCompiled f old new i j) where
   pub compared_cause : (r : Refusal) → IsRefusal i j r → IsCompatCause f old new r
   compared_cause Memory cause = tt
   compared_cause (NotCompatible why) cause = record { older = i; newer = j; compiled = compiled; different = cause }

@@ -3,7 +3,7 @@
 -- for between the two.
 use Rattle.std.specs.Prelude.{◌≡◌, ◌⊎◌, ℕ, Bool, true, false, List, [], ◌∷◌, length, Option, Some, None, codes, decimal, option_map, ⊤}
 use Rattle.std.specs.List.{slice_get}
-use Rattle.nd_base.specs.Over.{FilesSeen}
+use Rattle.nd_base.specs.Over.{FilesOver}
 use Rattle.nd_base.specs.Text.{joined}
 use Rattle.nd_types.specs.declared.interface.Interface.{Interface}
 use Rattle.nd_types.specs.declared.types.Operation.{Operation}
@@ -24,32 +24,32 @@ use Rattle.command_compile.specs.Compiled.{AsksFiles, FileNames, IsCompiled, IsI
 -- ## Two files, one after the other
 
 -- files over the first part of a call, up to where these names had been asked for
-abbrev pub first_part : FilesSeen → List (List ℕ) → FilesSeen
+abbrev pub first_part : FilesOver → List (List ℕ) → FilesOver
 first_part f mid = record { held = f.held; asked = f.asked; asked_now = mid; absences = f.absences; faults = f.faults }
 
 -- and over the rest of it
-abbrev pub second_part : FilesSeen → List (List ℕ) → FilesSeen
+abbrev pub second_part : FilesOver → List (List ℕ) → FilesOver
 second_part f mid = record { held = f.held; asked = mid; asked_now = f.asked_now; absences = f.absences; faults = f.faults }
 
 -- Each of the two files means an interface. The files of the second were asked for after those of the first.
-pub record AreCompiled (f : FilesSeen) (old new : FileNames) (i j : Interface) : Type 0 where
+pub record AreCompiled (f : FilesOver) (old new : FileNames) (i j : Interface) : Type 0 where
   pub mid : List (List ℕ)
   pub first : IsCompiled (first_part f mid) old.idl old.acf i
   pub second : IsCompiled (second_part f mid) new.idl new.acf j
 
 -- The first file means an interface, and this holds of the rest of the call.
-pub record AfterFirst (f : FilesSeen) (old : FileNames) (P : FilesSeen → Type 0) : Type 0 where
+pub record AfterFirst (f : FilesOver) (old : FileNames) (P : FilesOver → Type 0) : Type 0 where
   pub mid : List (List ℕ)
   pub interface : Interface
   pub first : IsCompiled (first_part f mid) old.idl old.acf interface
   pub rest : P (second_part f mid)
 
 -- the files of the first are asked for; then, where they mean an interface, those of the second
-abbrev pub AsksBoth : FilesSeen → FileNames → FileNames → Type 0
+abbrev pub AsksBoth : FilesOver → FileNames → FileNames → Type 0
 AsksBoth f old new = AsksFiles f (Some old) ⊎ AfterFirst f old (λ g. AsksFiles g (Some new))
 
 -- why they mean no two interfaces: the files of the first are refused; or they mean an interface, and those of the second are refused
-abbrev pub IsFilesCause : FilesSeen → FileNames → FileNames → Refusal → Type 0
+abbrev pub IsFilesCause : FilesOver → FileNames → FileNames → Refusal → Type 0
 IsFilesCause f old new r = IsIdlCause f old.idl old.acf r ⊎ AfterFirst f old (λ g. IsIdlCause g new.idl new.acf r)
 
 -- ## The comparison
@@ -90,21 +90,21 @@ IsDifference i k _ = ⊥
 -- ## The files
 
 -- The files mean two interfaces, of which the second has all operations of the first, and this line was made.
-pub record IsCompatible (f : FilesSeen) (old new : FileNames) (made : List ℕ) : Type 0 where
+pub record IsCompatible (f : FilesOver) (old new : FileNames) (made : List ℕ) : Type 0 where
   pub older : Interface
   pub newer : Interface
   pub compiled : AreCompiled f old new older newer
   pub answer : IsAnswer older newer made
 
 -- The files mean two interfaces, and their comparison answers this reason.
-pub record IsNotCompatible (f : FilesSeen) (old new : FileNames) (why : CompatFault) : Type 0 where
+pub record IsNotCompatible (f : FilesOver) (old new : FileNames) (why : CompatFault) : Type 0 where
   pub older : Interface
   pub newer : Interface
   pub compiled : AreCompiled f old new older newer
   pub different : IsDifferent older newer why
 
 -- why the files are refused; running out of memory needs no cause
-abbrev pub IsCompatCause : FilesSeen → FileNames → FileNames → Refusal → Type 0
+abbrev pub IsCompatCause : FilesOver → FileNames → FileNames → Refusal → Type 0
 IsCompatCause f old new Memory = ⊤
 IsCompatCause f old new (NotCompatible why) = IsNotCompatible f old new why
 IsCompatCause f old new r = IsFilesCause f old new r
@@ -112,7 +112,7 @@ IsCompatCause f old new r = IsFilesCause f old new r
 -- ## What is written beside a refusal
 
 -- The files mean two interfaces, the operation of this name is the first that differs, and this text has the first place at which it does.
-pub record IsPlaceWritten (f : FilesSeen) (old new : FileNames) (name text : List ℕ) : Type 0 where
+pub record IsPlaceWritten (f : FilesOver) (old new : FileNames) (name text : List ℕ) : Type 0 where
   pub older : Interface
   pub newer : Interface
   pub compiled : AreCompiled f old new older newer
@@ -122,14 +122,14 @@ pub record IsPlaceWritten (f : FilesSeen) (old new : FileNames) (name text : Lis
   pub text_is : text ≡ difference_lines older newer difference
 
 -- beside the refusal of an operation that differs its first place, and nothing beside any other
-abbrev pub IsBeside : FilesSeen → FileNames → FileNames → Refusal → Option (List ℕ) → Type 0
+abbrev pub IsBeside : FilesOver → FileNames → FileNames → Refusal → Option (List ℕ) → Type 0
 IsBeside f old new (NotCompatible (fault.Differs name)) (Some text) = IsPlaceWritten f old new name text
 IsBeside f old new (NotCompatible (fault.Differs name)) None = ⊥
 IsBeside f old new r None = ⊤
 IsBeside f old new r (Some text) = ⊥
 
 -- why versions are not compatible, and what is written beside it
-pub record IsIncompatible (f : FilesSeen) (old new : FileNames) (r : Incompatible) : Type 0 where
+pub record IsIncompatible (f : FilesOver) (old new : FileNames) (r : Incompatible) : Type 0 where
   pub cause : IsCompatCause f old new r.refusal
   pub beside : IsBeside f old new r.refusal r.place
 

@@ -1,6 +1,6 @@
 -- Which files a command may ask for, what these mean, and why they mean no interface.
 use Rattle.std.specs.Prelude.{◌≡◌, ◌⊎◌, ℕ, List, [], ◌++◌, take, Option, Some, None, slice_get, option_to_list, ⊤}
-use Rattle.nd_base.specs.Over.{IsContent, FilesSeen, AreUntouched, IsMissing, HasRisen}
+use Rattle.nd_base.specs.Over.{IsContent, FilesOver, AreUntouched, IsMissing, HasRisen}
 use Rattle.nd_types.specs.declared.interface.Interface.{Interface}
 use Rattle.nd_types.specs.Meant.{meant_by}
 use Rattle.idl_listing.specs.Listing.{listing}
@@ -50,14 +50,14 @@ abbrev pub all_due : List Source → Option (List ℕ) → List (List ℕ)
 all_due sources acf = names_of sources ++ option_to_list acf
 
 -- the files that are asked for: none if a command speaks of none
-abbrev pub AsksFiles : FilesSeen → Option FileNames → Type 0
+abbrev pub AsksFiles : FilesOver → Option FileNames → Type 0
 AsksFiles f None = AreUntouched f
 AsksFiles f (Some named) = (names : List (List ℕ)) × (f.asked_now ≡ f.asked ++ names) × AreAsked f.held named.idl named.acf names
 
 -- ## What the files of a command mean, and why they mean no interface
 
 -- All files were loaded, and they mean this interface. `acf` is the name of the attribute configuration file, if one is named.
-pub record IsCompiled (f : FilesSeen) (idl : List ℕ) (acf : Option (List ℕ)) (i : Interface) : Type 0 where
+pub record IsCompiled (f : FilesOver) (idl : List ℕ) (acf : Option (List ℕ)) (i : Interface) : Type 0 where
   pub file : List ℕ
   pub loaded : IsContent f.held idl file
   pub means : Means f.held idl file acf i
@@ -65,13 +65,13 @@ pub record IsCompiled (f : FilesSeen) (idl : List ℕ) (acf : Option (List ℕ))
   pub all_asked : f.asked_now ≡ f.asked ++ all_due means.state.sources acf
 
 -- The files mean an interface, and this is its listing.
-pub record IsListed (f : FilesSeen) (idl : List ℕ) (acf : Option (List ℕ)) (made : List ℕ) : Type 0 where
+pub record IsListed (f : FilesOver) (idl : List ℕ) (acf : Option (List ℕ)) (made : List ℕ) : Type 0 where
   pub interface : Interface
   pub compiled : IsCompiled f idl acf interface
   pub made_is : made ≡ listing (meant_by interface)
 
 -- The files mean an interface, and this is the listing of its plan.
-pub record IsPlanned (f : FilesSeen) (idl : List ℕ) (acf : Option (List ℕ)) (made : List ℕ) : Type 0 where
+pub record IsPlanned (f : FilesOver) (idl : List ℕ) (acf : Option (List ℕ)) (made : List ℕ) : Type 0 where
   pub interface : Interface
   pub compiled : IsCompiled f idl acf interface
   pub made_is : made
@@ -79,7 +79,7 @@ pub record IsPlanned (f : FilesSeen) (idl : List ℕ) (acf : Option (List ℕ)) 
 
 -- Why a main file that was loaded means no interface with the files after it: a load comes first that is absent or fails, or one of the files is
 -- refused. (Running out of memory needs no cause.)
-abbrev pub IsTextCause : FilesSeen → List ℕ → List ℕ → Option (List ℕ) → Refusal → Type 0
+abbrev pub IsTextCause : FilesOver → List ℕ → List ℕ → Option (List ℕ) → Refusal → Type 0
 IsTextCause f idl text acf (Absent file) = HasRisen f.absences × IsDueAfter f.held idl text acf file × IsMissing f.held file
 IsTextCause f idl text acf (FileFailed file) = HasRisen f.faults × IsDueAfter f.held idl text acf file
 IsTextCause f idl text acf Memory = ⊤
@@ -88,7 +88,7 @@ IsTextCause f idl text acf _ = ⊥
 
 -- Why the files mean no interface: a load comes first that is absent or fails, or one of the files is refused. (Running out of memory
 -- needs no cause.)
-abbrev pub IsIdlCause : FilesSeen → List ℕ → Option (List ℕ) → Refusal → Type 0
+abbrev pub IsIdlCause : FilesOver → List ℕ → Option (List ℕ) → Refusal → Type 0
 IsIdlCause f idl acf (Absent file) = HasRisen f.absences × IsDueFile f.held idl acf file × IsMissing f.held file
 IsIdlCause f idl acf (FileFailed file) = HasRisen f.faults × IsDueFile f.held idl acf file
 IsIdlCause f idl acf Memory = ⊤

@@ -1,6 +1,6 @@
 -- What the steps of compiling answer: loads, the main file, the attribute configuration file, and the names asked for on the way.
 use Rattle.std.specs.Prelude.{◌≡◌, ℕ, ◌≤◌, ◌<◌, ◌⊎◌, List, [], ◌∷◌, ◌++◌, length, drop, Option, None, Some, ⊤}
-use Rattle.nd_base.specs.Over.{IsContent, FilesSeen}
+use Rattle.nd_base.specs.Over.{IsContent, FilesOver}
 use Rattle.nd_types.specs.declared.interface.Interface.{Interface}
 use Rattle.idl_lexer.specs.Verdict.{Lexed, place_of}
 use Rattle.idl_grammar.specs.declared.fault.SyntaxFault.{SyntaxFault}
@@ -35,13 +35,13 @@ IsReportedAcf name text (BadIdl file line column why) =
 IsReportedAcf name text _ = ⊥
 
 -- why the attribute configuration file of a name was not loaded and read
-abbrev pub IsAcfCause : FilesSeen → List ℕ → Refusal → Type 0
+abbrev pub IsAcfCause : FilesOver → List ℕ → Refusal → Type 0
 IsAcfCause f name (BadIdl file line column why) =
     (text : List ℕ) × IsContent f.held name text × IsReportedAcf name text (BadIdl file line column why)
 IsAcfCause f name r = IsLoadCause f name r
 
 -- the same where one is named
-abbrev pub IsBesideCause : FilesSeen → Option (List ℕ) → Refusal → Type 0
+abbrev pub IsBesideCause : FilesOver → Option (List ℕ) → Refusal → Type 0
 IsBesideCause f None r = ⊥
 IsBesideCause f (Some name) r = IsAcfCause f name r
 
@@ -62,14 +62,14 @@ pub record IsJudged (held : Option (List ℕ → Option (List ℕ))) (idl text :
   pub state_is : means.state ≡ state
 
 -- The main file was loaded before; after it all that is due was asked for, and the files mean this interface.
-pub record MeansAfter (f : FilesSeen) (idl text : List ℕ) (acf : Option (List ℕ)) (i : Interface) : Type 0 where
+pub record MeansAfter (f : FilesOver) (idl text : List ℕ) (acf : Option (List ℕ)) (i : Interface) : Type 0 where
   pub means : Means f.held idl text acf i
   pub rest : List (List ℕ)
   pub rest_is : idl ∷ rest ≡ all_due means.state.sources acf
   pub asked : f.asked_now ≡ f.asked ++ rest
 
 -- The main file was asked for before, and after it these, each when it was due.
-pub record AsksAfter (f : FilesSeen) (idl : List ℕ) (acf : Option (List ℕ)) : Type 0 where
+pub record AsksAfter (f : FilesOver) (idl : List ℕ) (acf : Option (List ℕ)) : Type 0 where
   pub rest : List (List ℕ)
   pub asked : f.asked_now ≡ f.asked ++ rest
   pub are_asked : AreAsked f.held idl acf (idl ∷ rest)

@@ -1,6 +1,6 @@
 // The attribute configuration file that is named beside a file of IDL (C706, section 4.3).
 ghost use Rattle.std.specs.Prelude.{◌≡◌, ◌≤◌, [], ◌∷◌, ◌++◌, option_map, option_to_list, IfOk, IfErr};
-ghost use Rattle.nd_base.specs.Over.{files_seen};
+ghost use Rattle.nd_base.specs.Over.{files_over};
 ghost use Rattle.idl_lexer.specs.Verdict.{IsFault};
 ghost use Rattle.idl_names.specs.Loads.{IsOfText};
 ghost use Rattle.acf_reader.specs.Seen.{seen_acf};
@@ -30,13 +30,13 @@ pub(crate) fn load_beside<'a, F: Files>(
     name: Option<&'a str>,
     files: &mut F,
 ) -> Result<Option<NamedAcf<'a>>, Refusal>
-    ensures beside { IfOk result (λ f. IsBeside (F.held files.old) (option_map (λ n. n.now) name.entry) (seen_beside f)) }
+    ensures beside { IfOk result (λ f. IsBeside (F.seen files.old).held (option_map (λ n. n.now) name.entry) (seen_beside f)) }
     ensures refused { IfErr result
-        (IsBesideCause (files_seen F.held F.absences F.faults F.asked files.old files.new) (option_map (λ n. n.now) name.entry)) }
-    ensures asked { F.asked files.new ≡ F.asked files.old ++ option_to_list (option_map (λ n. n.now) name.entry) }
-    ensures later { F.faults files.old ≤ F.faults files.new }
-    ensures absences_later { F.absences files.old ≤ F.absences files.new }
-    ensures same { F.held files.new ≡ F.held files.old }
+        (IsBesideCause (files_over F.seen files.old files.new) (option_map (λ n. n.now) name.entry)) }
+    ensures asked { (F.seen files.new).asked ≡ (F.seen files.old).asked ++ option_to_list (option_map (λ n. n.now) name.entry) }
+    ensures later { (F.seen files.old).faults ≤ (F.seen files.new).faults }
+    ensures absences_later { (F.seen files.old).absences ≤ (F.seen files.new).absences }
+    ensures same { (F.seen files.new).held ≡ (F.seen files.old).held }
 {
     match name {
         None => Ok(None),
@@ -50,12 +50,12 @@ fn load_acf<'a, F: Files>(
     name: &'a str,
     files: &mut F,
 ) -> Result<NamedAcf<'a>, Refusal>
-    ensures file { IfOk result (λ f. IsLoadedAcf (F.held files.old) name.now (seen_file f)) }
-    ensures refused { IfErr result (IsAcfCause (files_seen F.held F.absences F.faults F.asked files.old files.new) name.now) }
-    ensures asked { F.asked files.new ≡ F.asked files.old ++ name.now ∷ [] }
-    ensures later { F.faults files.old ≤ F.faults files.new }
-    ensures absences_later { F.absences files.old ≤ F.absences files.new }
-    ensures same { F.held files.new ≡ F.held files.old }
+    ensures file { IfOk result (λ f. IsLoadedAcf (F.seen files.old).held name.now (seen_file f)) }
+    ensures refused { IfErr result (IsAcfCause (files_over F.seen files.old files.new) name.now) }
+    ensures asked { (F.seen files.new).asked ≡ (F.seen files.old).asked ++ name.now ∷ [] }
+    ensures later { (F.seen files.old).faults ≤ (F.seen files.new).faults }
+    ensures absences_later { (F.seen files.old).absences ≤ (F.seen files.new).absences }
+    ensures same { (F.seen files.new).held ≡ (F.seen files.old).held }
 {
     let text = load(alloc, name, files)?;
     let tree = read_text(alloc, name.as_bytes(), text.as_slice())?;

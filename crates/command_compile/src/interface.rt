@@ -1,7 +1,7 @@
 // The interface that files mean: the main file is loaded and read, its names are resolved with those of the files that it imports, and the rules are
 // checked, with an attribute configuration file if one is named.
 ghost use Rattle.std.specs.Prelude.{◌≡◌, ◌≤◌, ◌++◌, ℕ, List, Option, Some, length, drop, option_map, option_to_list, IfOk, IfErr};
-ghost use Rattle.nd_base.specs.Over.{IsContent, files_seen};
+ghost use Rattle.nd_base.specs.Over.{IsContent, files_over};
 ghost use Rattle.acf_reader.specs.Seen.{seen_acf};
 ghost use Rattle.idl_grammar.specs.Seen.{seen_tree};
 ghost use Rattle.idl_names.specs.Walk.{IsFile, names_of};
@@ -41,12 +41,12 @@ pub fn list<F: Files>(
     acf: Option<&str>,
     files: &mut F,
 ) -> Result<Octets, Refusal>
-    ensures asked { AsksFiles (files_seen F.held F.absences F.faults F.asked files.old files.new)
+    ensures asked { AsksFiles (files_over F.seen files.old files.new)
         (Some (record { idl = idl.now; acf = option_map (λ a. a.now) acf.entry })) }
     ensures listed { IfOk result
-        (IsListed (files_seen F.held F.absences F.faults F.asked files.old files.new) idl.now (option_map (λ a. a.now) acf.entry)) }
+        (IsListed (files_over F.seen files.old files.new) idl.now (option_map (λ a. a.now) acf.entry)) }
     ensures refused { IfErr result
-        (IsIdlCause (files_seen F.held F.absences F.faults F.asked files.old files.new) idl.now (option_map (λ a. a.now) acf.entry)) }
+        (IsIdlCause (files_over F.seen files.old files.new) idl.now (option_map (λ a. a.now) acf.entry)) }
 {
     let interface = compile(alloc, idl, acf, files)?;
     Ok(interface_listing(alloc, &interface)?)
@@ -65,12 +65,12 @@ pub fn list_plan<F: Files>(
     acf: Option<&str>,
     files: &mut F,
 ) -> Result<Octets, Refusal>
-    ensures asked { AsksFiles (files_seen F.held F.absences F.faults F.asked files.old files.new)
+    ensures asked { AsksFiles (files_over F.seen files.old files.new)
         (Some (record { idl = idl.now; acf = option_map (λ a. a.now) acf.entry })) }
     ensures planned { IfOk result
-        (IsPlanned (files_seen F.held F.absences F.faults F.asked files.old files.new) idl.now (option_map (λ a. a.now) acf.entry)) }
+        (IsPlanned (files_over F.seen files.old files.new) idl.now (option_map (λ a. a.now) acf.entry)) }
     ensures refused { IfErr result
-        (IsIdlCause (files_seen F.held F.absences F.faults F.asked files.old files.new) idl.now (option_map (λ a. a.now) acf.entry)) }
+        (IsIdlCause (files_over F.seen files.old files.new) idl.now (option_map (λ a. a.now) acf.entry)) }
 {
     let interface = compile(alloc, idl, acf, files)?;
     let plan = make(alloc, &interface)?;
@@ -92,15 +92,15 @@ pub fn compile<F: Files>(
     acf: Option<&str>,
     files: &mut F,
 ) -> Result<Interface, Refusal>
-    ensures asked { AsksFiles (files_seen F.held F.absences F.faults F.asked files.old files.new)
+    ensures asked { AsksFiles (files_over F.seen files.old files.new)
         (Some (record { idl = idl.now; acf = option_map (λ a. a.now) acf.entry })) }
     ensures ok { IfOk result
-        (IsCompiled (files_seen F.held F.absences F.faults F.asked files.old files.new) idl.now (option_map (λ a. a.now) acf.entry)) }
+        (IsCompiled (files_over F.seen files.old files.new) idl.now (option_map (λ a. a.now) acf.entry)) }
     ensures err { IfErr result
-        (IsIdlCause (files_seen F.held F.absences F.faults F.asked files.old files.new) idl.now (option_map (λ a. a.now) acf.entry)) }
-    ensures later { F.faults files.old ≤ F.faults files.new }
-    ensures absences_later { F.absences files.old ≤ F.absences files.new }
-    ensures same { F.held files.new ≡ F.held files.old }
+        (IsIdlCause (files_over F.seen files.old files.new) idl.now (option_map (λ a. a.now) acf.entry)) }
+    ensures later { (F.seen files.old).faults ≤ (F.seen files.new).faults }
+    ensures absences_later { (F.seen files.old).absences ≤ (F.seen files.new).absences }
+    ensures same { (F.seen files.new).held ≡ (F.seen files.old).held }
 {
     let text = load(alloc, idl, files)?;
     compile_text(alloc, idl, text, acf, files)
@@ -114,15 +114,15 @@ fn compile_text<F: Files>(
     acf: Option<&str>,
     files: &mut F,
 ) -> Result<Interface, Refusal>
-    requires { IsContent (F.held files.old) idl.now text }
-    ensures asked { AsksAfter (files_seen F.held F.absences F.faults F.asked files.old files.new) idl.now (option_map (λ a. a.now) acf.entry) }
+    requires { IsContent (F.seen files.old).held idl.now text }
+    ensures asked { AsksAfter (files_over F.seen files.old files.new) idl.now (option_map (λ a. a.now) acf.entry) }
     ensures ok { IfOk result
-        (MeansAfter (files_seen F.held F.absences F.faults F.asked files.old files.new) idl.now text (option_map (λ a. a.now) acf.entry)) }
+        (MeansAfter (files_over F.seen files.old files.new) idl.now text (option_map (λ a. a.now) acf.entry)) }
     ensures err { IfErr result
-        (IsTextCause (files_seen F.held F.absences F.faults F.asked files.old files.new) idl.now text (option_map (λ a. a.now) acf.entry)) }
-    ensures later { F.faults files.old ≤ F.faults files.new }
-    ensures absences_later { F.absences files.old ≤ F.absences files.new }
-    ensures same { F.held files.new ≡ F.held files.old }
+        (IsTextCause (files_over F.seen files.old files.new) idl.now text (option_map (λ a. a.now) acf.entry)) }
+    ensures later { (F.seen files.old).faults ≤ (F.seen files.new).faults }
+    ensures absences_later { (F.seen files.old).absences ≤ (F.seen files.new).absences }
+    ensures same { (F.seen files.new).held ≡ (F.seen files.old).held }
 {
     let mut sources = main_sources(alloc, idl, text)?;
     match scope_of(alloc, files, &mut sources) {
@@ -150,17 +150,17 @@ fn scope_of<F: Files>(
 ) -> Result<Scope, NameFault>
     requires { length sources.old ≡ 1 }
     ensures scope { (idl text : List ℕ) → sources.old ≡ main_file idl text
-        → IfOk result (λ scope. AreResolved (F.held files.old) idl text (seen_scope sources.new scope)) }
+        → IfOk result (λ scope. AreResolved (F.seen files.old).held idl text (seen_scope sources.new scope)) }
     ensures fault { (idl text : List ℕ) → sources.old ≡ main_file idl text
-        → IfErr result (IsNameFault (F.held files.old) idl text sources.new) }
+        → IfErr result (IsNameFault (F.seen files.old).held idl text sources.new) }
     ensures asked { (idl text : List ℕ) → sources.old ≡ main_file idl text
-        → AsksOfImports (F.held files.old) idl text (F.asked files.old) (F.asked files.new) }
-    ensures all_asked { IfOk result (λ _. F.asked files.new ≡ F.asked files.old ++ names_of (drop 1 sources.new)) }
-    ensures absent { IfErr result (IsAbsent (F.absences files.old) (F.absences files.new)) }
-    ensures failed { IfErr result (IsFailed (F.faults files.old) (F.faults files.new)) }
-    ensures later { F.faults files.old ≤ F.faults files.new }
-    ensures absences_later { F.absences files.old ≤ F.absences files.new }
-    ensures same { F.held files.new ≡ F.held files.old }
+        → AsksOfImports (F.seen files.old).held idl text (F.seen files.old).asked (F.seen files.new).asked }
+    ensures all_asked { IfOk result (λ _. (F.seen files.new).asked ≡ (F.seen files.old).asked ++ names_of (drop 1 sources.new)) }
+    ensures absent { IfErr result (IsAbsent (F.seen files.old).absences (F.seen files.new).absences) }
+    ensures failed { IfErr result (IsFailed (F.seen files.old).faults (F.seen files.new).faults) }
+    ensures later { (F.seen files.old).faults ≤ (F.seen files.new).faults }
+    ensures absences_later { (F.seen files.old).absences ≤ (F.seen files.new).absences }
+    ensures same { (F.seen files.new).held ≡ (F.seen files.old).held }
 {
     let tree = main_tree(alloc, sources)?;
     resolve(alloc, files, sources, tree)
@@ -218,15 +218,15 @@ fn judge<F: Files>(
     acf: Option<&str>,
     files: &mut F,
 ) -> Result<Interface, Refusal>
-    ensures asked { F.asked files.new ≡ F.asked files.old ++ option_to_list (option_map (λ a. a.now) acf.entry) }
-    ensures ok { (idl text : List ℕ) → (r : AreResolved (F.held files.old) idl text (seen_scope sources.now scope.now))
-        → IfOk result (IsJudged (F.held files.old) idl text (option_map (λ a. a.now) acf.entry) (seen_scope sources.now scope.now)) }
-    ensures err { (idl text : List ℕ) → AreResolved (F.held files.old) idl text (seen_scope sources.now scope.now)
+    ensures asked { (F.seen files.new).asked ≡ (F.seen files.old).asked ++ option_to_list (option_map (λ a. a.now) acf.entry) }
+    ensures ok { (idl text : List ℕ) → (r : AreResolved (F.seen files.old).held idl text (seen_scope sources.now scope.now))
+        → IfOk result (IsJudged (F.seen files.old).held idl text (option_map (λ a. a.now) acf.entry) (seen_scope sources.now scope.now)) }
+    ensures err { (idl text : List ℕ) → AreResolved (F.seen files.old).held idl text (seen_scope sources.now scope.now)
         → IfErr result
-        (IsTextCause (files_seen F.held F.absences F.faults F.asked files.old files.new) idl text (option_map (λ a. a.now) acf.entry)) }
-    ensures later { F.faults files.old ≤ F.faults files.new }
-    ensures absences_later { F.absences files.old ≤ F.absences files.new }
-    ensures same { F.held files.new ≡ F.held files.old }
+        (IsTextCause (files_over F.seen files.old files.new) idl text (option_map (λ a. a.now) acf.entry)) }
+    ensures later { (F.seen files.old).faults ≤ (F.seen files.new).faults }
+    ensures absences_later { (F.seen files.old).absences ≤ (F.seen files.new).absences }
+    ensures same { (F.seen files.new).held ≡ (F.seen files.old).held }
 {
     let beside = load_beside(alloc, acf, files)?;
     match check(alloc, scope, tree_of_beside(&beside)) {

@@ -1,6 +1,6 @@
 // The first place at which two versions of an interface differ, beside the refusal.
 ghost use Rattle.std.specs.Prelude.{◌≡◌, ℕ, true, false, option_map, IfOk, IfErr};
-ghost use Rattle.nd_base.specs.Over.{files_seen};
+ghost use Rattle.nd_base.specs.Over.{files_over};
 ghost use Rattle.idl_compat.specs.Comparison.{IsFirst};
 ghost use Rattle.command_refusals.specs.declared.refusal.Refusal.TheVariants.{NotCompatible};
 ghost use Rattle.command_refusals.specs.declared.refusal.CompatFault.TheVariants as fault;
@@ -36,13 +36,13 @@ pub fn compat_why<F: Files>(
     new_acf: Option<&str>,
     files: &mut F,
 ) -> Result<Octets, Incompatible>
-    ensures asked { AsksBoth (files_seen F.held F.absences F.faults F.asked files.old files.new)
+    ensures asked { AsksBoth (files_over F.seen files.old files.new)
         (record { idl = old.now; acf = option_map (λ a. a.now) old_acf.entry })
         (record { idl = new.now; acf = option_map (λ a. a.now) new_acf.entry }) }
-    ensures done { IfOk result (IsCompatible (files_seen F.held F.absences F.faults F.asked files.old files.new)
+    ensures done { IfOk result (IsCompatible (files_over F.seen files.old files.new)
         (record { idl = old.now; acf = option_map (λ a. a.now) old_acf.entry })
         (record { idl = new.now; acf = option_map (λ a. a.now) new_acf.entry })) }
-    ensures refused { IfErr result (IsIncompatible (files_seen F.held F.absences F.faults F.asked files.old files.new)
+    ensures refused { IfErr result (IsIncompatible (files_over F.seen files.old files.new)
         (record { idl = old.now; acf = option_map (λ a. a.now) old_acf.entry })
         (record { idl = new.now; acf = option_map (λ a. a.now) new_acf.entry })) }
 {

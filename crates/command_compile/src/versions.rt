@@ -1,7 +1,7 @@
 // Two versions of an interface are compiled and compared.
 ghost use Rattle.std.specs.Prelude.{◌≡◌, ◌<◌, [], ◌∷◌, codes, decimal, length, Some, option_map, IfOk, IfErr};
 ghost use Rattle.std.specs.List.{slice_get};
-ghost use Rattle.nd_base.specs.Over.{files_seen};
+ghost use Rattle.nd_base.specs.Over.{files_over};
 ghost use Rattle.nd_base.specs.Text.{joined};
 ghost use Rattle.nd_types.specs.declared.types.Operation.{Operation};
 ghost use Rattle.command_refusals.specs.declared.refusal.Refusal.TheVariants.{NotCompatible};
@@ -47,13 +47,13 @@ pub fn compat<F: Files>(
     new_acf: Option<&str>,
     files: &mut F,
 ) -> Result<Octets, Refusal>
-    ensures asked { AsksBoth (files_seen F.held F.absences F.faults F.asked files.old files.new)
+    ensures asked { AsksBoth (files_over F.seen files.old files.new)
         (record { idl = old.now; acf = option_map (λ a. a.now) old_acf.entry })
         (record { idl = new.now; acf = option_map (λ a. a.now) new_acf.entry }) }
-    ensures done { IfOk result (IsCompatible (files_seen F.held F.absences F.faults F.asked files.old files.new)
+    ensures done { IfOk result (IsCompatible (files_over F.seen files.old files.new)
         (record { idl = old.now; acf = option_map (λ a. a.now) old_acf.entry })
         (record { idl = new.now; acf = option_map (λ a. a.now) new_acf.entry })) }
-    ensures refused { IfErr result (IsCompatCause (files_seen F.held F.absences F.faults F.asked files.old files.new)
+    ensures refused { IfErr result (IsCompatCause (files_over F.seen files.old files.new)
         (record { idl = old.now; acf = option_map (λ a. a.now) old_acf.entry })
         (record { idl = new.now; acf = option_map (λ a. a.now) new_acf.entry })) }
 {
@@ -70,14 +70,14 @@ pub(crate) fn compile_both<F: Files>(
     new_acf: Option<&str>,
     files: &mut F,
 ) -> Result<Versions, Refusal>
-    ensures asked { AsksBoth (files_seen F.held F.absences F.faults F.asked files.old files.new)
+    ensures asked { AsksBoth (files_over F.seen files.old files.new)
         (record { idl = old.now; acf = option_map (λ a. a.now) old_acf.entry })
         (record { idl = new.now; acf = option_map (λ a. a.now) new_acf.entry }) }
-    ensures compiled { IfOk result (λ v. AreCompiled (files_seen F.held F.absences F.faults F.asked files.old files.new)
+    ensures compiled { IfOk result (λ v. AreCompiled (files_over F.seen files.old files.new)
         (record { idl = old.now; acf = option_map (λ a. a.now) old_acf.entry })
         (record { idl = new.now; acf = option_map (λ a. a.now) new_acf.entry })
         v.older v.newer) }
-    ensures refused { IfErr result (IsFilesCause (files_seen F.held F.absences F.faults F.asked files.old files.new)
+    ensures refused { IfErr result (IsFilesCause (files_over F.seen files.old files.new)
         (record { idl = old.now; acf = option_map (λ a. a.now) old_acf.entry })
         (record { idl = new.now; acf = option_map (λ a. a.now) new_acf.entry })) }
 {

@@ -4,7 +4,7 @@ use Rattle.std.proofs.KnownBytes.{Consumes-trans}
 use Rattle.std.proofs.lemmas.List.{append-nil}
 use Rattle.std.specs.Io.KnownBytes.{Consumes}
 use Rattle.nd_base.specs.declared.octets.Order.{Order}
-use Rattle.nd_base.specs.Over.{SourceSeen}
+use Rattle.nd_base.specs.Over.{SourceOver}
 use Rattle.nd_types.specs.declared.interface.Interface.{Interface}
 use Rattle.nd_types.specs.declared.types.Operation.{Operation}
 use Rattle.nd_types.specs.declared.types.Side.{Side}
@@ -22,7 +22,7 @@ use Rattle.ndr_explain.specs.Explained.{explanation}
 use Rattle.command_decode.specs.Decoded.{IsExplained, IsLogged}
 
 -- what was decoded was taken, and its items are in a log that was empty
-pub logged_is : (s : SourceSeen) (w : Setting) (order : Order) (taken : ℕ) (g : Graph) (t : DecodingSeen) → t.log ≡ record { keeps = true; items = [] }
+pub logged_is : (s : SourceOver) (w : Setting) (order : Order) (taken : ℕ) (g : Graph) (t : DecodingSeen) → t.log ≡ record { keeps = true; items = [] }
     → IsDecoded w order s taken g t → IsLogged s w order taken g t.log_now.items
 logged_is s w order taken g t empty d =
     record {
@@ -34,7 +34,7 @@ logged_is s w order taken g t empty d =
     }
 
 -- the items under an equal interface
-pub logged_over : (s : SourceSeen) (o : Operation) (side : Side) (q : Option Graph) (order : Order) (i j : Interface) (taken : ℕ) (g : Graph) (log : List Item) → j ≡ i
+pub logged_over : (s : SourceOver) (o : Operation) (side : Side) (q : Option Graph) (order : Order) (i j : Interface) (taken : ℕ) (g : Graph) (log : List Item) → j ≡ i
     → IsLogged s (setting_beside j o side q) order taken g log → IsLogged s (setting_beside i o side q) order taken g log
 logged_over s o side q order i j taken g log is h = subst (λ (k : Interface). IsLogged s (setting_beside k o side q) order taken g log) is h
 
@@ -45,7 +45,7 @@ lines_are i o side own given its g log text same alone lines =
     subst (λ q. text ≡ explanation (setting_beside i o side q) g log) alone (subst (λ k. text ≡ explanation (setting_beside i o k its) g log) same lines)
 
 -- what was decoded to the end of the source is explained
-pub explained_is : (s t : SourceSeen) (w : Setting) (order : Order) (taken : ℕ) (g : Graph) (log : List Item) (text : List ℕ) (h : IsLogged s w order taken g log)
+pub explained_is : (s t : SourceOver) (w : Setting) (order : Order) (taken : ℕ) (g : Graph) (log : List Item) (text : List ℕ) (h : IsLogged s w order taken g log)
     → t.left ≡ s.left_now → IsEnd t → text ≡ explanation w g log → IsExplained (over s t) w order text
 explained_is s t w order taken g log text h meets end lines = record {
   octets = h.first.octets;

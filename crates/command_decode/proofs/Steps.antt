@@ -5,7 +5,7 @@ use Rattle.std.proofs.lemmas.List.{append-nil}
 use Rattle.std.specs.Io.KnownBytes.{Consumes}
 use Rattle.nd_base.proofs.Rising.{rose_later}
 use Rattle.nd_base.specs.declared.octets.Order.{Order}
-use Rattle.nd_base.specs.Over.{Rose, SourceSeen}
+use Rattle.nd_base.specs.Over.{Rose, SourceOver}
 use Rattle.nd_types.specs.declared.interface.Interface.{Interface}
 use Rattle.nd_types.specs.declared.types.Operation.{Operation}
 use Rattle.nd_types.specs.declared.types.Side.{Side}
@@ -27,13 +27,13 @@ use Rattle.command_decode.specs.Decoded.{IsPrinted, IsInputCause, IsRefusedInput
 use Rattle.command_decode.specs.Taken.{IsTaken, IsEnd, IsNoEnd}
 
 -- a source over one step and then over another
-abbrev pub over : SourceSeen → SourceSeen → SourceSeen
+abbrev pub over : SourceOver → SourceOver → SourceOver
 over s t = record { left = s.left; left_now = t.left_now; ended = t.ended; faults = record { before = s.faults.before; now = t.faults.now } }
 
 -- ## Decoding
 
 -- what was decoded was taken
-pub taken_is : (s : SourceSeen) (w : Setting) (order : Order) (taken : ℕ) (g : Graph) (t : DecodingSeen) → IsDecoded w order s taken g t → IsTaken s w order taken g
+pub taken_is : (s : SourceOver) (w : Setting) (order : Order) (taken : ℕ) (g : Graph) (t : DecodingSeen) → IsDecoded w order s taken g t → IsTaken s w order taken g
 taken_is s w order taken g t d = record {
   octets = d.fetched;
   left = d.left;
@@ -43,7 +43,7 @@ taken_is s w order taken g t d = record {
 }
 
 -- what was refused is refused
-pub refused_is : (s : SourceSeen) (w : Setting) (order : Order) (place : ℕ) (why : Reason) (t : DecodingSeen) → IsRefused w order s place why t
+pub refused_is : (s : SourceOver) (w : Setting) (order : Order) (place : ℕ) (why : Reason) (t : DecodingSeen) → IsRefused w order s place why t
     → IsRefusedInput s w order place why
 refused_is s w order place why t r = record {
   octets = r.fetched;
@@ -55,12 +55,12 @@ refused_is s w order place why t r = record {
 }
 
 -- a fault that is a refusal
-pub fault_is : (s : SourceSeen) (w : Setting) (order : Order) (e : DecodeFault) (place : ℕ) (why : Reason) (t : DecodingSeen) → e ≡ fault.Bad place why
+pub fault_is : (s : SourceOver) (w : Setting) (order : Order) (e : DecodeFault) (place : ℕ) (why : Reason) (t : DecodingSeen) → e ≡ fault.Bad place why
     → IsFault w order s e t → IsRefusedInput s w order place why
 fault_is s w order e place why t is h = refused_is s w order place why t (subst (λ x. IsFault w order s x t) is h)
 
 -- a refusal under an equal interface
-pub over_interface : (s : SourceSeen) (o : Operation) (side : Side) (q : Option Graph) (order : Order) (i j : Interface) (r : Refusal) → j ≡ i
+pub over_interface : (s : SourceOver) (o : Operation) (side : Side) (q : Option Graph) (order : Order) (i j : Interface) (r : Refusal) → j ≡ i
     → IsInputCause s (setting_beside j o side q) order r → IsInputCause s (setting_beside i o side q) order r
 over_interface s o side q order i j r is h = subst (λ (k : Interface). IsInputCause s (setting_beside k o side q) order r) is h
 
@@ -74,7 +74,7 @@ text_is i o side own given its g text same alone printed =
 
 -- ## The end
 
-module _ (s t : SourceSeen) (w : Setting) (order : Order) (taken : ℕ) (g : Graph) (first : IsTaken s w order taken g) (meets : t.left ≡ s.left_now) where
+module _ (s t : SourceOver) (w : Setting) (order : Order) (taken : ℕ) (g : Graph) (first : IsTaken s w order taken g) (meets : t.left ≡ s.left_now) where
   both : (octets : List ℕ) → Consumes t.left t.left_now octets → Consumes s.left t.left_now (first.octets ++ octets)
   both octets taken = Consumes-trans s.left s.left_now t.left_now first.octets octets first.left (subst (λ l. Consumes l t.left_now octets) meets taken)
 

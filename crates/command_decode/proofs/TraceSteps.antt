@@ -4,7 +4,7 @@ use Rattle.std.specs.List.{slice_get}
 use Rattle.std.proofs.lemmas.List.{append-nil, length-append}
 use Rattle.nd_base.specs.declared.octets.Memory.{Memory as NoMemory}
 use Rattle.nd_base.specs.declared.octets.Order.{Order}
-use Rattle.nd_base.specs.Over.{SourceSeen}
+use Rattle.nd_base.specs.Over.{SourceOver}
 use Rattle.nd_base.proofs.Consumed.{rest_of, parts_of, none_left}
 use Rattle.nd_types.specs.declared.interface.Interface.{Interface}
 use Rattle.nd_types.specs.declared.types.Operation.{Operation}
@@ -39,7 +39,7 @@ use Rattle.command_decode.specs.declared.held.Traced.TheVariants as traced
 noted_are : (xs : List Item) (t : DecodingSeen) → t.log ≡ record { keeps = true; items = [] } → HasNoted xs t → t.log_now.items ≡ xs
 noted_are xs t empty noted = ap (λ (l : Logged). l.items) noted ∙ ap (λ (l : Logged). (with_items xs l).items) empty
 
-module _ (w : Setting) (order : Order) (octets : List ℕ) (s : SourceSeen) (t : DecodingSeen) (lent : s.left ≡ Some octets)
+module _ (w : Setting) (order : Order) (octets : List ℕ) (s : SourceOver) (t : DecodingSeen) (lent : s.left ≡ Some octets)
     (empty : t.log ≡ record { keeps = true; items = [] }) where
   pub logged_front : (taken : ℕ) (g : Graph) → IsDecoded w order s taken g t → IsLoggedFront w order octets taken g t.log_now.items
   logged_front taken g d = record {

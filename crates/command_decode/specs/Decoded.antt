@@ -4,7 +4,7 @@ use Rattle.std.specs.Io.KnownBytes.{Consumes, IsAtEnd}
 use Rattle.nd_base.specs.declared.octets.Order.{Order}
 use Rattle.nd_base.specs.declared.TheConstants.{STREAM_LIMIT}
 use Rattle.nd_base.specs.declared.octets.Memory.{Memory as NoMemory}
-use Rattle.nd_base.specs.Over.{SourceSeen, HasRisen}
+use Rattle.nd_base.specs.Over.{SourceOver, HasRisen}
 use Rattle.nd_value.specs.declared.value.Graph.{Graph}
 use Rattle.nd_value.specs.declared.item.Item.{Item}
 use Rattle.nd_value.specs.Setting.{Setting}
@@ -43,20 +43,20 @@ pub record IsDecoding (w : Setting) (order : Order) (octets text : List ℕ) : T
   pub is_text : IsText w graph text
 
 -- These octets were taken of the source, and are all that it gives.
-pub record IsWhole (s : SourceSeen) (octets : List ℕ) : Type 0 where
+pub record IsWhole (s : SourceOver) (octets : List ℕ) : Type 0 where
   pub taken : Consumes s.left s.left_now octets
   pub ended : s.ended ≡ true
   pub none_left : IsAtEnd s.left_now
 
 -- The source was read to its end, and its octets are decoded to this text.
-pub record IsPrinted (s : SourceSeen) (w : Setting) (order : Order) (text : List ℕ) : Type 0 where
+pub record IsPrinted (s : SourceOver) (w : Setting) (order : Order) (text : List ℕ) : Type 0 where
   pub octets : List ℕ
   pub whole : IsWhole s octets
   pub decoding : IsDecoding w order octets text
 
 -- The octets that were taken are refused, and end with what is refused; so are all that begin with them, and where they are cut short the source
 -- gives no more.
-pub record IsRefusedInput (s : SourceSeen) (w : Setting) (order : Order) (place : ℕ) (why : Reason) : Type 0 where
+pub record IsRefusedInput (s : SourceOver) (w : Setting) (order : Order) (place : ℕ) (why : Reason) : Type 0 where
   pub octets : List ℕ
   pub taken : Consumes s.left s.left_now octets
   pub bad : Bad w order octets place why
@@ -65,7 +65,7 @@ pub record IsRefusedInput (s : SourceSeen) (w : Setting) (order : Order) (place 
   pub ended : why ≡ reason.Truncated → (s.ended ≡ true) × IsAtEnd s.left_now
 
 -- The octets that were taken are a stream of a graph that conforms, and one octet more.
-pub record IsTrailedInput (s : SourceSeen) (w : Setting) (order : Order) (place : ℕ) : Type 0 where
+pub record IsTrailedInput (s : SourceOver) (w : Setting) (order : Order) (place : ℕ) : Type 0 where
   pub octets : List ℕ
   pub next : ℕ
   pub taken : Consumes s.left s.left_now (octets ++ next ∷ [])
@@ -75,7 +75,7 @@ pub record IsTrailedInput (s : SourceSeen) (w : Setting) (order : Order) (place 
   pub conforms : Conforms w graph
 
 -- why the octets of a source are not printed; running out of memory needs no cause
-abbrev pub IsInputCause : SourceSeen → Setting → Order → Refusal → Type 0
+abbrev pub IsInputCause : SourceOver → Setting → Order → Refusal → Type 0
 IsInputCause s w order ReadFault = HasRisen s.faults
 IsInputCause s w order Memory = ⊤
 IsInputCause s w order (BadOctets place (Refused why)) = IsRefusedInput s w order place why
@@ -96,13 +96,13 @@ pub record IsExplanation (w : Setting) (order : Order) (octets text : List ℕ) 
   pub lines : text ≡ explanation w graph (items order octets (end_to_end 0 represents.entries))
 
 -- The source was read to its end, and this text explains its octets.
-pub record IsExplained (s : SourceSeen) (w : Setting) (order : Order) (text : List ℕ) : Type 0 where
+pub record IsExplained (s : SourceOver) (w : Setting) (order : Order) (text : List ℕ) : Type 0 where
   pub octets : List ℕ
   pub whole : IsWhole s octets
   pub explanation : IsExplanation w order octets text
 
 -- The octets that were taken, so many, are a stream of a graph that conforms, and these are its items.
-pub record IsLogged (s : SourceSeen) (w : Setting) (order : Order) (taken : ℕ) (g : Graph) (log : List Item) : Type 0 where
+pub record IsLogged (s : SourceOver) (w : Setting) (order : Order) (taken : ℕ) (g : Graph) (log : List Item) : Type 0 where
   pub first : IsTaken s w order taken g
   pub canonical : IsCanon w g g
   pub items_are : log ≡ items order first.octets (end_to_end 0 first.represents.entries)
@@ -156,20 +156,20 @@ IsTraced w order octets (traced.Refused lines place why) = IsRefusedWith w order
 -- `w` is a setting, `s` a source over the call.
 
 -- The source was read, to its end or to one octet past the limit of a stream. Its octets are refused at a place, and these lines trace them.
-pub record IsRefusedSource (s : SourceSeen) (w : Setting) (order : Order) (place : ℕ) (why : OctetsFault) (lines : List ℕ) : Type 0 where
+pub record IsRefusedSource (s : SourceOver) (w : Setting) (order : Order) (place : ℕ) (why : OctetsFault) (lines : List ℕ) : Type 0 where
   pub octets : List ℕ
   pub read : AreRead s STREAM_LIMIT octets
   pub refused : IsRefusedWith w order octets place why lines
 
 -- why they are not explained; running out of memory needs no cause
-abbrev pub IsTraceCause : SourceSeen → Setting → Order → Refusal → Type 0
+abbrev pub IsTraceCause : SourceOver → Setting → Order → Refusal → Type 0
 IsTraceCause s w order Memory = ⊤
 IsTraceCause s w order ReadFault = HasRisen s.faults
 IsTraceCause s w order (BadOctets place why) = (lines : List ℕ) × IsRefusedSource s w order place why lines
 IsTraceCause s w order _ = ⊥
 
 -- the refusal is that of octets, and these lines trace them
-abbrev pub AreLines : SourceSeen → Setting → Order → Refusal → List ℕ → Type 0
+abbrev pub AreLines : SourceOver → Setting → Order → Refusal → List ℕ → Type 0
 AreLines s w order r lines = (place : ℕ) × (why : OctetsFault) × (r ≡ BadOctets place why) × IsRefusedSource s w order place why lines
 
 -- the refusal is not one of octets
@@ -178,11 +178,11 @@ IsOther (BadOctets place why) = ⊥
 IsOther r = ⊤
 
 -- the lines are beside the refusal of octets, and nothing is beside any other
-abbrev pub IsBeside : SourceSeen → Setting → Order → Refusal → Option (List ℕ) → Type 0
+abbrev pub IsBeside : SourceOver → Setting → Order → Refusal → Option (List ℕ) → Type 0
 IsBeside s w order r (Some lines) = AreLines s w order r lines
 IsBeside s w order r None = IsOther r
 
-pub record IsStopped (s : SourceSeen) (w : Setting) (order : Order) (x : Stopped) : Type 0 where
+pub record IsStopped (s : SourceOver) (w : Setting) (order : Order) (x : Stopped) : Type 0 where
   pub cause : IsTraceCause s w order x.refusal
   pub beside : IsBeside s w order x.refusal x.lines
 

@@ -1,7 +1,7 @@
 // The octets of a source are decoded, and their items are written in words.
 ghost use Rattle.std.specs.Prelude.{◌≡◌, ◌≤◌, ◌<◌, [], true, length, Some, option_map, IfOk, IfErr};
 ghost use Rattle.std.specs.List.{slice_get};
-ghost use Rattle.nd_base.specs.Over.{source_seen};
+ghost use Rattle.nd_base.specs.Over.{source_over};
 ghost use Rattle.nd_types.specs.declared.types.Operation.{Operation};
 ghost use Rattle.nd_value.specs.Fitting.{setting_beside};
 ghost use Rattle.nd_value.specs.Request.{IsRequestOf};
@@ -42,11 +42,11 @@ pub fn explain_octets<S: Source>(
     requires request { IsRequestOf interface.now op side (option_map (λ f. f.now) given) }
     ensures explained { (o : Operation) → slice_get interface.now.operations op ≡ Some o
         → IfOk result
-        (IsExplained (source_seen S.left S.ended S.faults input.old input.new)
+        (IsExplained (source_over S.seen input.old input.new)
         (setting_beside interface.now o side (option_map (λ f. f.now.graph) given.entry)) order) }
     ensures refused { (o : Operation) → slice_get interface.now.operations op ≡ Some o
         → IfErr result
-        (IsInputCause (source_seen S.left S.ended S.faults input.old input.new)
+        (IsInputCause (source_over S.seen input.old input.new)
         (setting_beside interface.now o side (option_map (λ f. f.now.graph) given.entry)) order) }
 {
     let plan = make(alloc, interface)?;
@@ -73,7 +73,7 @@ fn decode<S: Source>(
     requires empty { items.old ≡ record { keeps = true; items = [] } }
     ensures logged { (o : Operation) → slice_get plan.now.tie.operations op ≡ Some o
         → IfOk result
-        (λ d. IsLogged (source_seen S.left S.ended S.faults input.old input.new)
+        (λ d. IsLogged (source_over S.seen input.old input.new)
         (setting_beside plan.now.tie o side (option_map (λ f. f.now.graph) given.entry)) order d.taken d.fit.graph items.new.items) }
     ensures interface { IfOk result (λ d. d.fit.interface ≡ plan.now.tie) }
     ensures number { IfOk result (λ d. d.fit.op ≡ op) }
@@ -81,9 +81,9 @@ fn decode<S: Source>(
     ensures beside { IfOk result (λ d. d.fit.given ≡ option_map (λ f. f.now.graph) given.entry) }
     ensures refused { (o : Operation) → slice_get plan.now.tie.operations op ≡ Some o
         → IfErr result
-        (IsInputCause (source_seen S.left S.ended S.faults input.old input.new)
+        (IsInputCause (source_over S.seen input.old input.new)
         (setting_beside plan.now.tie o side (option_map (λ f. f.now.graph) given.entry)) order) }
-    ensures later { S.faults input.old ≤ S.faults input.new }
+    ensures later { (S.seen input.old).faults ≤ (S.seen input.new).faults }
 {
     let mut steps = Steps::new(Uncounted::new());
     match ndr_decode::decode(

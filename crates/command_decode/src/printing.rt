@@ -1,7 +1,7 @@
 // The octets of a source are decoded, and the text of their values is printed.
 ghost use Rattle.std.specs.Prelude.{◌≡◌, ◌≤◌, ◌<◌, length, Some, option_map, IfOk, IfErr};
 ghost use Rattle.std.specs.List.{slice_get};
-ghost use Rattle.nd_base.specs.Over.{source_seen};
+ghost use Rattle.nd_base.specs.Over.{source_over};
 ghost use Rattle.nd_types.specs.declared.types.Operation.{Operation};
 ghost use Rattle.nd_value.specs.Fitting.{setting_beside};
 ghost use Rattle.nd_value.specs.Request.{IsRequestOf};
@@ -42,11 +42,11 @@ pub fn print_octets<S: Source>(
     requires request { IsRequestOf interface.now op side (option_map (λ f. f.now) given) }
     ensures printed { (o : Operation) → slice_get interface.now.operations op ≡ Some o
         → IfOk result
-        (IsPrinted (source_seen S.left S.ended S.faults input.old input.new)
+        (IsPrinted (source_over S.seen input.old input.new)
         (setting_beside interface.now o side (option_map (λ f. f.now.graph) given.entry)) order) }
     ensures refused { (o : Operation) → slice_get interface.now.operations op ≡ Some o
         → IfErr result
-        (IsInputCause (source_seen S.left S.ended S.faults input.old input.new)
+        (IsInputCause (source_over S.seen input.old input.new)
         (setting_beside interface.now o side (option_map (λ f. f.now.graph) given.entry)) order) }
 {
     let plan = make(alloc, interface)?;
@@ -70,7 +70,7 @@ fn decode<S: Source>(
     requires request { IsRequestOf plan.now.tie op side (option_map (λ f. f.now) given) }
     ensures taken { (o : Operation) → slice_get plan.now.tie.operations op ≡ Some o
         → IfOk result
-        (λ d. IsTaken (source_seen S.left S.ended S.faults input.old input.new)
+        (λ d. IsTaken (source_over S.seen input.old input.new)
         (setting_beside plan.now.tie o side (option_map (λ f. f.now.graph) given.entry)) order d.taken d.fit.graph) }
     ensures interface { IfOk result (λ d. d.fit.interface ≡ plan.now.tie) }
     ensures number { IfOk result (λ d. d.fit.op ≡ op) }
@@ -78,9 +78,9 @@ fn decode<S: Source>(
     ensures beside { IfOk result (λ d. d.fit.given ≡ option_map (λ f. f.now.graph) given.entry) }
     ensures refused { (o : Operation) → slice_get plan.now.tie.operations op ≡ Some o
         → IfErr result
-        (IsInputCause (source_seen S.left S.ended S.faults input.old input.new)
+        (IsInputCause (source_over S.seen input.old input.new)
         (setting_beside plan.now.tie o side (option_map (λ f. f.now.graph) given.entry)) order) }
-    ensures later { S.faults input.old ≤ S.faults input.new }
+    ensures later { (S.seen input.old).faults ≤ (S.seen input.new).faults }
 {
     let mut items = ItemLog::quiet();
     let mut steps = Steps::new(Uncounted::new());
@@ -102,8 +102,8 @@ fn decode<S: Source>(
 /// # Errors
 /// BadOctets at the place after them, where an octet follows: then it was taken. ReadFault, where the source failed.
 pub fn end<S: Source>(input: &mut S, taken: u32) -> Result<(), Refusal>
-    ensures ended { IfOk result (λ _. IsEnd (source_seen S.left S.ended S.faults input.old input.new)) }
-    ensures refused { IfErr result (IsNoEnd (source_seen S.left S.ended S.faults input.old input.new) taken) }
+    ensures ended { IfOk result (λ _. IsEnd (source_over S.seen input.old input.new)) }
+    ensures refused { IfErr result (IsNoEnd (source_over S.seen input.old input.new) taken) }
 {
     let mut next = [0u8];
     match input.fetch(&mut next) {

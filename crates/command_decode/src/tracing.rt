@@ -1,7 +1,7 @@
 // The octets of a source are read, and then traced.
 ghost use Rattle.std.specs.Prelude.{◌≡◌, ◌<◌, length, Some, None, option_map, IfOk, IfErr};
 ghost use Rattle.std.specs.List.{slice_get};
-ghost use Rattle.nd_base.specs.Over.{source_seen};
+ghost use Rattle.nd_base.specs.Over.{source_over};
 ghost use Rattle.nd_types.specs.declared.types.Operation.{Operation};
 ghost use Rattle.nd_value.specs.Fitting.{setting_beside};
 ghost use Rattle.nd_value.specs.Request.{IsRequestOf};
@@ -50,11 +50,11 @@ pub fn trace_octets<S: Source>(
     requires request { IsRequestOf interface.now op side (option_map (λ f. f.now) given) }
     ensures explained { (o : Operation) → slice_get interface.now.operations op ≡ Some o
         → IfOk result
-        (IsExplained (source_seen S.left S.ended S.faults input.old input.new)
+        (IsExplained (source_over S.seen input.old input.new)
         (setting_beside interface.now o side (option_map (λ f. f.now.graph) given.entry)) order) }
     ensures stopped { (o : Operation) → slice_get interface.now.operations op ≡ Some o
         → IfErr result
-        (IsStopped (source_seen S.left S.ended S.faults input.old input.new)
+        (IsStopped (source_over S.seen input.old input.new)
         (setting_beside interface.now o side (option_map (λ f. f.now.graph) given.entry)) order) }
 {
     let octets = match read_input(alloc, input, STREAM_LIMIT) {

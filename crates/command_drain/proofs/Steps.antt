@@ -7,7 +7,7 @@ use Rattle.std.specs.Io.KnownBytes.{Consumes, Keeps}
 use Rattle.std.proofs.lemmas.Bool.{cases_lt}
 use Rattle.nd_base.proofs.Rising.{rose_later}
 use Rattle.nd_base.specs.declared.octets.Order.{Order}
-use Rattle.nd_base.specs.Over.{Rose, SourceSeen}
+use Rattle.nd_base.specs.Over.{Rose, SourceOver}
 use Rattle.nd_value.specs.declared.value.Graph.{Graph}
 use Rattle.nd_value.specs.Setting.{Setting}
 use Rattle.nd_grammar.specs.declared.reason.Reason.{Reason}
@@ -28,12 +28,12 @@ use Rattle.command_drain.specs.Printed.{AreEnough, IsDrainRefusal, IsPrinted, Is
 use Rattle.command_drain.specs.Taken.{IsNotTaken, IsTaken}
 
 -- a source over one step and then over another
-abbrev pub over : SourceSeen → SourceSeen → SourceSeen
+abbrev pub over : SourceOver → SourceOver → SourceOver
 over s u = record { left = s.left; left_now = u.left_now; ended = u.ended; faults = record { before = s.faults.before; now = u.faults.now } }
 
 -- ## The drain
 
-pub taken_is : (s : SourceSeen) (e : EndsSeen) (w : Setting) (order : Order) (t : DecodingSeen) (taken : ℕ) (kept : Graph) → AreEnough w e → drained.IsDrained w order s e t taken kept
+pub taken_is : (s : SourceOver) (e : EndsSeen) (w : Setting) (order : Order) (t : DecodingSeen) (taken : ℕ) (kept : Graph) → AreEnough w e → drained.IsDrained w order s e t taken kept
     → IsTaken s e w order taken kept
 taken_is s e w order t taken kept enough d = record {
   octets = d.decoded.fetched;
@@ -53,7 +53,7 @@ enough_of many found h = go (cases_lt found many)
     go (inr k) = k
 
 -- a fault of the drain, as the refusal that it is
-module _ (s : SourceSeen) (e : EndsSeen) (w : Setting) (order : Order) (t : DecodingSeen) (f : DrainFault) where
+module _ (s : SourceOver) (e : EndsSeen) (w : Setting) (order : Order) (t : DecodingSeen) (f : DrainFault) where
   abbrev Cause : DrainFault → Type 0
   Cause x = drained.IsDrainCause w order s e t x
 
@@ -79,7 +79,7 @@ module _ (s : SourceSeen) (e : EndsSeen) (w : Setting) (order : Order) (t : Deco
   too_few_is wanted found is h = (t, subst Cause is h)
 
 -- a refusal of the drain is one of all
-pub not_taken : (s : SourceSeen) (e : EndsSeen) (w : Setting) (order : Order) (r : Refusal) → IsNotTaken s e w order r → IsDrainRefusal s e w order r
+pub not_taken : (s : SourceOver) (e : EndsSeen) (w : Setting) (order : Order) (r : Refusal) → IsNotTaken s e w order r → IsDrainRefusal s e w order r
 not_taken s e w order ReadFault h = (h.0, h.1, inl h.2)
 not_taken s e w order Memory h = inr (inl h)
 not_taken s e w order (BadOctets place (octets_fault.Refused why)) h = h
@@ -110,7 +110,7 @@ none_taken None now kept = tt
 none_taken (Some xs) None kept = absurd kept
 none_taken (Some xs) (Some ys) kept = sym kept
 
-module _ (s u : SourceSeen) (e : EndsSeen) (w : Setting) (order : Order) (taken : ℕ) (kept : Graph) (first : IsTaken s e w order taken kept) (meets : u.left ≡ s.left_now) where
+module _ (s u : SourceOver) (e : EndsSeen) (w : Setting) (order : Order) (taken : ℕ) (kept : Graph) (first : IsTaken s e w order taken kept) (meets : u.left ≡ s.left_now) where
   both : (octets : List ℕ) → Consumes u.left u.left_now octets → Consumes s.left u.left_now (first.octets ++ octets)
   both octets taken = Consumes-trans s.left s.left_now u.left_now first.octets octets first.left (subst (λ l. Consumes l u.left_now octets) meets taken)
 

@@ -3,7 +3,7 @@
 use Rattle.std.specs.Prelude.{◌≡◌, ◌≤◌, ◌⊎◌, ℕ, List, [], ◌∷◌, ◌++◌, length, drop}
 use Rattle.std.specs.Io.KnownBytes.{Consumes}
 use Rattle.nd_base.specs.declared.octets.Order.{Order}
-use Rattle.nd_base.specs.Over.{SourceSeen, HasRisen, IsUntouched}
+use Rattle.nd_base.specs.Over.{SourceOver, HasRisen, IsUntouched}
 use Rattle.nd_value.specs.declared.value.Graph.{Graph}
 use Rattle.nd_value.specs.Conforms.{Conforms}
 use Rattle.nd_value.specs.Deferral.{before_pipes}
@@ -34,7 +34,7 @@ pub record ArePipesGiven (w : Setting) (order : Order) (octets : List ℕ) (grap
   pub given : e.now ≡ given_pipes w (before_pipes (root_list w)) (drop (before_pipes (root_list w)) graph.roots) e.before
 
 -- The source was read to its end. The pipes of the graph of its octets were given, and the text is that of the graph with every pipe empty.
-pub record IsPrinted (s : SourceSeen) (e : EndsSeen) (w : Setting) (order : Order) (text : List ℕ) : Type 0 where
+pub record IsPrinted (s : SourceOver) (e : EndsSeen) (w : Setting) (order : Order) (text : List ℕ) : Type 0 where
   pub octets : List ℕ
   pub whole : IsWhole s octets
   pub graph : Graph
@@ -42,14 +42,14 @@ pub record IsPrinted (s : SourceSeen) (e : EndsSeen) (w : Setting) (order : Orde
   pub is_text : IsText w (without_pipes w graph) text
 
 -- The octets that were taken are a stream of a graph, whose pipes were given.
-pub record IsTakenWhole (s : SourceSeen) (e : EndsSeen) (w : Setting) (order : Order) : Type 0 where
+pub record IsTakenWhole (s : SourceOver) (e : EndsSeen) (w : Setting) (order : Order) : Type 0 where
   pub octets : List ℕ
   pub taken : Consumes s.left s.left_now octets
   pub graph : Graph
   pub pipes : ArePipesGiven w order octets graph e
 
 -- The octets that were taken are a stream of a graph, whose pipes were given, and one octet more.
-pub record IsTrailed (s : SourceSeen) (e : EndsSeen) (w : Setting) (order : Order) (place : ℕ) : Type 0 where
+pub record IsTrailed (s : SourceOver) (e : EndsSeen) (w : Setting) (order : Order) (place : ℕ) : Type 0 where
   pub octets : List ℕ
   pub next : ℕ
   pub taken : Consumes s.left s.left_now (octets ++ next ∷ [])
@@ -58,16 +58,16 @@ pub record IsTrailed (s : SourceSeen) (e : EndsSeen) (w : Setting) (order : Orde
   pub pipes : ArePipesGiven w order octets graph e
 
 -- The stream was not drained, for this fault of `drain`.
-abbrev pub IsNotDrained : SourceSeen → EndsSeen → Setting → Order → DrainFault → Type 0
+abbrev pub IsNotDrained : SourceOver → EndsSeen → Setting → Order → DrainFault → Type 0
 IsNotDrained s e w order f = (t : DecodingSeen) × drained.IsDrainCause w order s e t f
 
 -- nothing was read or given
-pub record IsNotBegun (s : SourceSeen) (e : EndsSeen) : Type 0 where
+pub record IsNotBegun (s : SourceOver) (e : EndsSeen) : Type 0 where
   pub untouched : IsUntouched s
   pub none_given : AreAsBefore e
 
 -- why the octets of a source are not printed, and what the ends have then
-abbrev pub IsDrainRefusal : SourceSeen → EndsSeen → Setting → Order → Refusal → Type 0
+abbrev pub IsDrainRefusal : SourceOver → EndsSeen → Setting → Order → Refusal → Type 0
 IsDrainRefusal s e w order ReadFault = HasRisen s.faults × AreEnough w e × (IsNotDrained s e w order fault.ReadFault ⊎ IsTakenWhole s e w order)
 IsDrainRefusal s e w order Memory = IsNotBegun s e ⊎ (IsNotDrained s e w order fault.Memory ⊎ IsTakenWhole s e w order)
 IsDrainRefusal s e w order (BadOctets place (Refused why)) = AreEnough w e × IsNotDrained s e w order (fault.Bad place why)

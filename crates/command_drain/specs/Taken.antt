@@ -3,7 +3,7 @@
 use Rattle.std.specs.Prelude.{◌≡◌, ℕ, List, length}
 use Rattle.std.specs.Io.KnownBytes.{Consumes}
 use Rattle.nd_base.specs.declared.octets.Order.{Order}
-use Rattle.nd_base.specs.Over.{SourceSeen, HasRisen}
+use Rattle.nd_base.specs.Over.{SourceOver, HasRisen}
 use Rattle.nd_value.specs.declared.value.Graph.{Graph}
 use Rattle.nd_value.specs.Setting.{Setting}
 use Rattle.ndr_drain_laws.specs.parts.Parts.{without_pipes}
@@ -15,7 +15,7 @@ use Rattle.command_refusals.specs.declared.refusal.Refusal.TheVariants.{Memory, 
 use Rattle.command_refusals.specs.declared.refusal.OctetsFault.TheVariants.{Refused}
 
 -- the octets that were taken, so many, are a stream of a graph whose pipes were given, and which is kept with every pipe empty
-pub record IsTaken (s : SourceSeen) (e : EndsSeen) (w : Setting) (order : Order) (taken : ℕ) (kept : Graph) : Type 0 where
+pub record IsTaken (s : SourceOver) (e : EndsSeen) (w : Setting) (order : Order) (taken : ℕ) (kept : Graph) : Type 0 where
   pub octets : List ℕ
   pub left : Consumes s.left s.left_now octets
   pub taken_is : taken ≡ length octets
@@ -24,7 +24,7 @@ pub record IsTaken (s : SourceSeen) (e : EndsSeen) (w : Setting) (order : Order)
   pub kept_is : kept ≡ without_pipes w graph
 
 -- why they were not taken
-abbrev pub IsNotTaken : SourceSeen → EndsSeen → Setting → Order → Refusal → Type 0
+abbrev pub IsNotTaken : SourceOver → EndsSeen → Setting → Order → Refusal → Type 0
 IsNotTaken s e w order ReadFault = HasRisen s.faults × AreEnough w e × IsNotDrained s e w order fault.ReadFault
 IsNotTaken s e w order Memory = IsNotDrained s e w order fault.Memory
 IsNotTaken s e w order (BadOctets place (Refused why)) = AreEnough w e × IsNotDrained s e w order (fault.Bad place why)

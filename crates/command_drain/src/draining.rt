@@ -1,7 +1,7 @@
 // The octets of a source are drained, and the text of what is kept is printed.
 ghost use Rattle.std.specs.Prelude.{◌≡◌, ◌≤◌, ◌<◌, length, Some, option_map, IfOk, IfErr};
 ghost use Rattle.std.specs.List.{slice_get};
-ghost use Rattle.nd_base.specs.Over.{source_seen};
+ghost use Rattle.nd_base.specs.Over.{source_over};
 ghost use Rattle.nd_types.specs.declared.types.Operation.{Operation};
 ghost use Rattle.nd_value.specs.Fitting.{setting_beside};
 ghost use Rattle.nd_value.specs.Request.{IsRequestOf};
@@ -47,10 +47,10 @@ pub fn drain_octets<S: Source, E: PipeEnd>(
     requires request { IsRequestOf interface.now op side (option_map (λ f. f.now) given) }
     requires open { AreOpen (ends_seen E.seen ends.old) }
     ensures printed { (o : Operation) → slice_get interface.now.operations op ≡ Some o
-        → IfOk result (IsPrinted (source_seen S.left S.ended S.faults input.old input.new) (ends_over E.seen ends.old ends.new)
+        → IfOk result (IsPrinted (source_over S.seen input.old input.new) (ends_over E.seen ends.old ends.new)
         (setting_beside interface.now o side (option_map (λ f. f.now.graph) given.entry)) order) }
     ensures refused { (o : Operation) → slice_get interface.now.operations op ≡ Some o
-        → IfErr result (IsDrainRefusal (source_seen S.left S.ended S.faults input.old input.new) (ends_over E.seen ends.old ends.new)
+        → IfErr result (IsDrainRefusal (source_over S.seen input.old input.new) (ends_over E.seen ends.old ends.new)
         (setting_beside interface.now o side (option_map (λ f. f.now.graph) given.entry)) order) }
 {
     let plan = make(alloc, interface)?;
@@ -77,16 +77,16 @@ fn drain<S: Source, E: PipeEnd>(
     requires request { IsRequestOf interface.now op side (option_map (λ f. f.now) given) }
     requires open { AreOpen (ends_seen E.seen ends.old) }
     ensures taken { (o : Operation) → slice_get interface.now.operations op ≡ Some o
-        → IfOk result (λ d. IsTaken (source_seen S.left S.ended S.faults input.old input.new) (ends_over E.seen ends.old ends.new)
+        → IfOk result (λ d. IsTaken (source_over S.seen input.old input.new) (ends_over E.seen ends.old ends.new)
         (setting_beside interface.now o side (option_map (λ f. f.now.graph) given.entry)) order d.taken d.fit.graph) }
     ensures interface { IfOk result (λ d. d.fit.interface ≡ interface.now) }
     ensures number { IfOk result (λ d. d.fit.op ≡ op) }
     ensures side { IfOk result (λ d. d.fit.side ≡ side) }
     ensures beside { IfOk result (λ d. d.fit.given ≡ option_map (λ f. f.now.graph) given.entry) }
     ensures refused { (o : Operation) → slice_get interface.now.operations op ≡ Some o
-        → IfErr result (IsNotTaken (source_seen S.left S.ended S.faults input.old input.new) (ends_over E.seen ends.old ends.new)
+        → IfErr result (IsNotTaken (source_over S.seen input.old input.new) (ends_over E.seen ends.old ends.new)
         (setting_beside interface.now o side (option_map (λ f. f.now.graph) given.entry)) order) }
-    ensures later { S.faults input.old ≤ S.faults input.new }
+    ensures later { (S.seen input.old).faults ≤ (S.seen input.new).faults }
 {
     let mut items = ItemLog::quiet();
     let mut steps = Steps::new(Uncounted::new());

@@ -1,6 +1,6 @@
 -- The request of a file, from what the steps answer.
 use Rattle.std.proofs.Common.{ℕ, List, Result, Ok, Err, IfOk, IfErr}
-use Rattle.nd_base.specs.Over.{IsContent, FilesSeen}
+use Rattle.nd_base.specs.Over.{IsContent, FilesOver}
 use Rattle.nd_value.specs.Setting.{Setting}
 use Rattle.nd_value.specs.Fitting.{Fitting}
 use Rattle.command_refusals.specs.declared.refusal.Refusal.{Refusal}
@@ -9,7 +9,7 @@ use Rattle.command_refusals.specs.declared.refusal.Refusal.TheVariants.{ShortLab
 use Rattle.command_refusals.specs.declared.refusal.Refusal.TheVariants.{BadPdu, NotCompatible, BadScript, LongScript}
 use Rattle.command_encode.specs.Encoded.{IsRequestText, IsTextRefusal, HoldsRequest, HoldsNoRequest}
 
-module _ (f : FilesSeen) (name : List ℕ) (w : Setting) where
+module _ (f : FilesOver) (name : List ℕ) (w : Setting) where
   module _ (text : List ℕ) (content : IsContent f.held name text) where
     unread : (r : Refusal) → IsTextRefusal w text r → HoldsNoRequest f name w r
     unread (BadRequest why) cause = (text, content, cause)

@@ -2,7 +2,7 @@
 use Rattle.std.specs.Prelude.{◌≡◌, ◌⊎◌, ℕ, ◌<◌, ◌≤◌, List, length, Some, None, ⊤}
 use Rattle.nd_base.specs.declared.TheConstants.{FILE_LIMIT, STREAM_LIMIT}
 use Rattle.nd_base.specs.declared.octets.Order.{Order}
-use Rattle.nd_base.specs.Over.{IsContent, IsMissing, FilesSeen, HasRisen}
+use Rattle.nd_base.specs.Over.{IsContent, IsMissing, FilesOver, HasRisen}
 use Rattle.nd_types.specs.declared.types.Side.TheVariants.{In}
 use Rattle.nd_value.specs.declared.item.Home.{Home}
 use Rattle.nd_value.specs.declared.misfit.MisfitReason.{MisfitReason}
@@ -85,11 +85,11 @@ IsTextRefusal w text (BadRequest fault) = IsRequestFault w text fault
 IsTextRefusal w text _ = ⊥
 
 -- the file of a name holds this request
-abbrev pub HoldsRequest : FilesSeen → List ℕ → Setting → Graph → Type 0
+abbrev pub HoldsRequest : FilesOver → List ℕ → Setting → Graph → Type 0
 HoldsRequest f name w q = (text : List ℕ) × IsContent f.held name text × IsRequestText w text q
 
 -- why the request of a file is refused; running out of memory needs no cause
-abbrev pub HoldsNoRequest : FilesSeen → List ℕ → Setting → Refusal → Type 0
+abbrev pub HoldsNoRequest : FilesOver → List ℕ → Setting → Refusal → Type 0
 HoldsNoRequest f name w (Absent file) = (file ≡ name) × HasRisen f.absences × IsMissing f.held name
 HoldsNoRequest f name w (FileFailed file) = (file ≡ name) × HasRisen f.faults
 HoldsNoRequest f name w Memory = ⊤

@@ -1,7 +1,7 @@
 // The request beside which a response is judged: its text is loaded, read and fitted to the inputs of the operation.
 ghost use Rattle.std.specs.Prelude.{◌≡◌, ◌≤◌, ◌<◌, ℕ, List, [], ◌∷◌, ◌++◌, length, Some, None, IfOk, IfErr};
 ghost use Rattle.std.specs.List.{slice_get};
-ghost use Rattle.nd_base.specs.Over.{files_seen};
+ghost use Rattle.nd_base.specs.Over.{files_over};
 ghost use Rattle.nd_types.specs.declared.types.Operation.{Operation};
 ghost use Rattle.nd_types.specs.declared.types.Side.TheVariants.{In};
 ghost use Rattle.nd_value.specs.Fitting.{setting_of};
@@ -36,13 +36,13 @@ pub fn load_request<F: Files>(
     ensures number { IfOk result (λ f. f.op ≡ op) }
     ensures side { IfOk result (λ f. f.side ≡ In) }
     ensures request { (o : Operation) (w : Setting) → slice_get interface.now.operations op ≡ Some o → inputs w ≡ setting_of interface.now o In
-        → IfOk result (λ f. HoldsRequest (files_seen F.held F.absences F.faults F.asked files.old files.new) name.now w f.graph) }
+        → IfOk result (λ f. HoldsRequest (files_over F.seen files.old files.new) name.now w f.graph) }
     ensures refused { (o : Operation) (w : Setting) → slice_get interface.now.operations op ≡ Some o → inputs w ≡ setting_of interface.now o In
-        → IfErr result (HoldsNoRequest (files_seen F.held F.absences F.faults F.asked files.old files.new) name.now w) }
-    ensures later { F.faults files.old ≤ F.faults files.new }
-    ensures absences_later { F.absences files.old ≤ F.absences files.new }
-    ensures same { F.held files.new ≡ F.held files.old }
-    ensures asked { F.asked files.new ≡ F.asked files.old ++ name.now ∷ [] }
+        → IfErr result (HoldsNoRequest (files_over F.seen files.old files.new) name.now w) }
+    ensures later { (F.seen files.old).faults ≤ (F.seen files.new).faults }
+    ensures absences_later { (F.seen files.old).absences ≤ (F.seen files.new).absences }
+    ensures same { (F.seen files.new).held ≡ (F.seen files.old).held }
+    ensures asked { (F.seen files.new).asked ≡ (F.seen files.old).asked ++ name.now ∷ [] }
 {
     let text = load(alloc, name, files)?;
     fit_request(alloc, interface, op, text.as_slice())

@@ -1,6 +1,6 @@
 // Files by their names.
 ghost use Rattle.std.specs.Prelude.{◌≡◌, ◌≤◌, [], ◌∷◌, ◌++◌, IfOk, IfErr};
-ghost use Rattle.nd_base.specs.Over.{IsContent, files_seen};
+ghost use Rattle.nd_base.specs.Over.{IsContent, files_over};
 ghost use Rattle.command_refusals.specs.Loads.{IsLoadCause};
 
 use crate::refusal::Refusal;
@@ -14,12 +14,12 @@ use std::alloc::Global;
 ///
 /// Takes memory for the content.
 pub fn load<F: Files>(alloc: Global, name: &str, files: &mut F) -> Result<Octets, Refusal>
-    ensures content { IfOk result (IsContent (F.held files.old) name.now) }
-    ensures refused { IfErr result (IsLoadCause (files_seen F.held F.absences F.faults F.asked files.old files.new) name.now) }
-    ensures later { F.faults files.old ≤ F.faults files.new }
-    ensures absences_later { F.absences files.old ≤ F.absences files.new }
-    ensures same { F.held files.new ≡ F.held files.old }
-    ensures asked { F.asked files.new ≡ F.asked files.old ++ name.now ∷ [] }
+    ensures content { IfOk result (IsContent (F.seen files.old).held name.now) }
+    ensures refused { IfErr result (IsLoadCause (files_over F.seen files.old files.new) name.now) }
+    ensures later { (F.seen files.old).faults ≤ (F.seen files.new).faults }
+    ensures absences_later { (F.seen files.old).absences ≤ (F.seen files.new).absences }
+    ensures same { (F.seen files.new).held ≡ (F.seen files.old).held }
+    ensures asked { (F.seen files.new).asked ≡ (F.seen files.old).asked ++ name.now ∷ [] }
 {
     match files.load(alloc, name) {
         Ok(text) => Ok(text),

@@ -4,7 +4,7 @@ use Rattle.std.specs.Io.KnownBytes.{Consumes}
 use Rattle.std.proofs.lemmas.List.{append-nil}
 use Rattle.std.proofs.lemmas.Option.{same_Some}
 use Rattle.nd_base.specs.declared.octets.Order.TheVariants.{Little}
-use Rattle.nd_base.specs.Over.{SourceSeen}
+use Rattle.nd_base.specs.Over.{SourceOver}
 use Rattle.nd_types.specs.declared.interface.Interface.{Interface}
 use Rattle.nd_types.specs.declared.types.Side.TheVariants.{In}
 use Rattle.nd_value.specs.declared.value.Graph.{Graph}
@@ -36,7 +36,7 @@ module _ (i : Interface) (is : IsSampleInterface i) where
   own_is : setting_beside i take In None ≡ sample_setting
   own_is = setting_is i.types take In None is.types refl refl refl
 
-  module _ (seed n : ℕ) (octets : List ℕ) (are : AreSampleOctets octets seed n) (s : SourceSeen) (t : DecodingSeen) where
+  module _ (seed n : ℕ) (octets : List ℕ) (are : AreSampleOctets octets seed n) (s : SourceOver) (t : DecodingSeen) where
     pub same_is : (taken : ℕ) (g : Graph) → IsDecoded (setting_beside i take In None) Little s taken g t → s.left ≡ Some octets → Same (sample_graph seed n) g
     same_is taken g d left =
         let r = rest_of s.left s.left_now d.fetched octets left d.left in

@@ -1,6 +1,6 @@
 -- What a session comes to, from what was read and how the script ran.
 use Rattle.std.proofs.Common.{◌≡◌, ℕ, ◌+◌, ◌<◌, ◌≤◌, List, [], inl, inr, length, Result, Ok, Err, MatchResult, arith}
-use Rattle.nd_base.specs.Over.{SourceSeen, SinkSeen, HasRisen}
+use Rattle.nd_base.specs.Over.{SourceOver, SinkOver, HasRisen}
 use Rattle.command_refusals.specs.declared.refusal.Refusal.{Refusal}
 use Rattle.command_refusals.specs.declared.refusal.Refusal.TheVariants.{Memory, Absent, FileFailed, BadIdl, NoOperation, ReadFault, BadOctets, BadText, BadValue, TooLong, BadRequest}
 use Rattle.command_refusals.specs.declared.refusal.Refusal.TheVariants.{BadLabel, ShortLabel, TooFewEnds, EndFailed, BadPdu, NotCompatible, BadScript, LongScript}
@@ -11,7 +11,7 @@ use Rattle.ctx_session.proofs.Accounts.{accounted}
 use Rattle.command_session.specs.Session.{script_limit, SessionSeen, session_over, HasSession, IsSessionDone, IsSessionCause, IsSessionRefused, IsRefusalDelivered, IsNotRun}
 
 -- the causes of a session, one by one
-pub by_cause : (P : Refusal → Type 0) (s : SourceSeen) → P Memory → (HasRisen s.faults → P ReadFault) → (IsSessionCause s LongScript → P LongScript)
+pub by_cause : (P : Refusal → Type 0) (s : SourceOver) → P Memory → (HasRisen s.faults → P ReadFault) → (IsSessionCause s LongScript → P LongScript)
     → ((line : ℕ) → IsSessionCause s (BadScript line) → P (BadScript line)) → (r : Refusal) → IsSessionCause s r → P r
 by_cause P s memory read long bad Memory h = memory
 by_cause P s memory read long bad ReadFault h = read h
@@ -35,7 +35,7 @@ by_cause P s memory read long bad (NotCompatible fault) h = absurd h
 
 -- ## From what was read
 
-module _ (s : SourceSeen) (stock : StockSeen) where
+module _ (s : SourceOver) (stock : StockSeen) where
   abbrev x : SessionSeen
   x = session_over s stock
 
@@ -106,12 +106,12 @@ module _ (s : SourceSeen) (stock : StockSeen) where
 -- ## From how it was written
 
 -- a refusal was reported, or want of memory in its place
-reported : (x : SessionSeen) (out notes : SinkSeen) (status : ℕ) (r : Refusal) → IsSessionRefused x r → IsRefusalDelivered out notes r status
+reported : (x : SessionSeen) (out notes : SinkOver) (status : ℕ) (r : Refusal) → IsSessionRefused x r → IsRefusalDelivered out notes r status
     → HasSession x out notes status
 reported x out notes status r refused (before, inl told) = inr (r, refused, before, told)
 reported x out notes status r refused (before, inr told) = inr (Memory, record { cause = tt; untouched = refused.untouched }, before, told)
 
-pub written : (x : SessionSeen) (out notes : SinkSeen) (status : ℕ) (r : Result (List ℕ) Refusal) → MatchResult r (IsSessionDone x) (IsSessionRefused x)
+pub written : (x : SessionSeen) (out notes : SinkOver) (status : ℕ) (r : Result (List ℕ) Refusal) → MatchResult r (IsSessionDone x) (IsSessionRefused x)
     → MatchResult r (λ made. IsGiven out notes made status) (λ refusal. IsRefusalDelivered out notes refusal status) → HasSession x out notes status
 written x out notes status (Ok made) d given = inl (made, d, given)
 written x out notes status (Err refusal) refused told = reported x out notes status refusal refused told

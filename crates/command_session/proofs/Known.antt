@@ -2,11 +2,11 @@
 use Rattle.std.proofs.Common.{◌≡◌, ℕ, ◌+◌, ◌<◌, ◌≤◌, List, [], ◌++◌, length, take, refl, sym, ◌∙◌, ap, subst, arith}
 use Rattle.std.proofs.lemmas.List.{append-nil, length-take-le, take_all as take_whole}
 use Rattle.std.specs.Io.KnownBytes.{Consumes, IsAtEnd}
-use Rattle.nd_base.specs.Over.{SourceSeen}
+use Rattle.nd_base.specs.Over.{SourceOver}
 use Rattle.command_streams.specs.Input.{AreRead, AreGiven}
 use Rattle.command_streams.proofs.OneInput.{same_octets, split_input}
 
-module _ (s : SourceSeen) (octets : List ℕ) (given : AreGiven s octets) where
+module _ (s : SourceOver) (octets : List ℕ) (given : AreGiven s octets) where
   -- up to a limit: its first octets, to one past the limit
   first_octets : (limit : ℕ) (others : List ℕ) → AreRead s limit others → others ≡ take (limit + 1) octets
   first_octets limit others read =

@@ -1,7 +1,7 @@
 -- The rows of a session follow from the whole of it.
 use Rattle.std.proofs.Common.{◌≡◌, ◌∙◌, ℕ, ◌+◌, ◌<◌, ◌≤◌, List, [], ◌∷◌, ◌⊎◌, inl, inr, refl, sym, subst, length, arith}
 use Rattle.std.specs.Prelude.{◌≢◌}
-use Rattle.nd_base.specs.Over.{SinkSeen, HasRisen, Got}
+use Rattle.nd_base.specs.Over.{SinkOver, HasRisen, Got}
 use Rattle.command_refusals.specs.declared.refusal.Refusal.{Refusal}
 use Rattle.command_refusals.specs.declared.refusal.Refusal.TheVariants.{Memory, Absent, FileFailed, BadIdl, NoOperation, ReadFault, BadOctets, BadText, BadValue, TooLong, BadRequest}
 use Rattle.command_refusals.specs.declared.refusal.Refusal.TheVariants.{BadLabel, ShortLabel, TooFewEnds, EndFailed, BadPdu, NotCompatible, BadScript, LongScript}
@@ -18,7 +18,7 @@ use Rattle.command_session.proofs.Ends.{by_cause}
 apart : (n a b : ℕ) → n ≡ a → n ≡ b → (a ≡ b → ⊥) → ⊥
 apart n a b x y unlike = unlike (sym x ∙ y)
 
-module _ (x : SessionSeen) (out notes : SinkSeen) (status : ℕ) where
+module _ (x : SessionSeen) (out notes : SinkOver) (status : ℕ) where
   -- ## What a status says
 
   -- the status of a refusal

@@ -1,6 +1,6 @@
 -- What each status of a session says, and which of them comes if nothing fails.
 use Rattle.std.specs.Prelude.{◌≡◌, ◌⊎◌, ℕ, ◌<◌, ◌≤◌, List, [], length}
-use Rattle.nd_base.specs.Over.{SinkSeen, HasRisen, Got, GotPrefix, IsAsBefore}
+use Rattle.nd_base.specs.Over.{SinkOver, HasRisen, Got, GotPrefix, IsAsBefore}
 use Rattle.command_refusals.specs.declared.refusal.Refusal.{Refusal}
 use Rattle.command_refusals.specs.declared.refusal.Refusal.TheVariants.{BadScript, LongScript}
 use Rattle.command_refusals.specs.Lines.{status_of, line_of}
@@ -12,14 +12,14 @@ use Rattle.command_session.specs.Session.{script_limit, SessionSeen, IsSessionDo
 -- ## What a status says
 
 -- A session was done, out grew by its answers, and notes are as before.
-pub record IsAnswered (x : SessionSeen) (out notes : SinkSeen) : Type 0 where
+pub record IsAnswered (x : SessionSeen) (out notes : SinkOver) : Type 0 where
   pub made : List ℕ
   pub done : IsSessionDone x made
   pub given : Got out made
   pub quiet : IsAsBefore notes
 
 -- A session was refused: for a cause, under its status and with its line on notes. Out and the stock are as before.
-pub record IsRefusedWith (x : SessionSeen) (out notes : SinkSeen) (status : ℕ) : Type 0 where
+pub record IsRefusedWith (x : SessionSeen) (out notes : SinkOver) (status : ℕ) : Type 0 where
   pub refusal : Refusal
   pub refused : IsSessionRefused x refusal
   pub own_status : status ≡ status_of refusal
@@ -27,7 +27,7 @@ pub record IsRefusedWith (x : SessionSeen) (out notes : SinkSeen) (status : ℕ)
   pub nothing_given : IsAsBefore out
 
 -- A session was done, but out failed: it has a prefix of the answers, and notes say so.
-pub record IsCutShort (x : SessionSeen) (out notes : SinkSeen) : Type 0 where
+pub record IsCutShort (x : SessionSeen) (out notes : SinkOver) : Type 0 where
   pub made : List ℕ
   pub done : IsSessionDone x made
   pub risen : HasRisen out.faults
@@ -35,7 +35,7 @@ pub record IsCutShort (x : SessionSeen) (out notes : SinkSeen) : Type 0 where
   pub warned : IsWarned notes
 
 -- A session was refused, but notes failed: they have a prefix of the line. Out and the stock are as before.
-pub record IsUnreported (x : SessionSeen) (out notes : SinkSeen) : Type 0 where
+pub record IsUnreported (x : SessionSeen) (out notes : SinkOver) : Type 0 where
   pub refusal : Refusal
   pub refused : IsSessionRefused x refusal
   pub risen : HasRisen notes.faults
@@ -45,7 +45,7 @@ pub record IsUnreported (x : SessionSeen) (out notes : SinkSeen) : Type 0 where
 -- ## Where nothing fails
 
 -- no count rose
-pub record HasNotFailed (x : SessionSeen) (out notes : SinkSeen) : Type 0 where
+pub record HasNotFailed (x : SessionSeen) (out notes : SinkOver) : Type 0 where
   pub reads : HasRisen x.input.faults → ⊥
   pub writes : HasRisen out.faults → ⊥
   pub reports : HasRisen notes.faults → ⊥
@@ -61,5 +61,5 @@ IsNoScript octets (BadScript line) = (length octets ≤ script_limit) × IsBadLi
 IsNoScript octets _ = ⊥
 
 -- a session is refused in this way, or it ran out of memory
-abbrev pub Refuses : SinkSeen → ℕ → Refusal → Type 0
+abbrev pub Refuses : SinkOver → ℕ → Refusal → Type 0
 Refuses notes status refusal = ((status ≡ status_of refusal) × Got notes (line_of [] [] refusal)) ⊎ (status ≡ 5)

@@ -1,7 +1,7 @@
 -- What a session comes to, and how it is written.
 use Rattle.std.specs.Prelude.{◌≡◌, ◌⊎◌, ℕ, ◌<◌, ◌≤◌, true, List, [], length, codes, ⊤}
 use Rattle.std.specs.Io.KnownBytes.{Consumes, IsAtEnd}
-use Rattle.nd_base.specs.Over.{SourceSeen, SinkSeen, HasRisen, IsAsBefore}
+use Rattle.nd_base.specs.Over.{SourceOver, SinkOver, HasRisen, IsAsBefore}
 use Rattle.command_refusals.specs.declared.refusal.Refusal.{Refusal}
 use Rattle.command_refusals.specs.declared.refusal.Refusal.TheVariants.{Memory, ReadFault, BadScript, LongScript}
 use Rattle.command_refusals.specs.Lines.{status_of, line_of}
@@ -19,10 +19,10 @@ script_limit = 1048576
 
 -- input and stock over a session
 pub record SessionSeen : Type 0 where
-  pub input : SourceSeen
+  pub input : SourceOver
   pub stock : StockSeen
 
-abbrev pub session_over : SourceSeen → StockSeen → SessionSeen
+abbrev pub session_over : SourceOver → StockSeen → SessionSeen
 session_over s k = record { input = s; stock = k }
 
 -- The input was read to its end and is a script. Its lines were done one after the other with these answers, and then all that was live was ended.
@@ -41,20 +41,20 @@ pub record IsSessionDone (x : SessionSeen) (made : List ℕ) : Type 0 where
   pub made_is : made ≡ answer_lines answers
 
 -- The input has more octets than a script may have.
-pub record IsLong (s : SourceSeen) : Type 0 where
+pub record IsLong (s : SourceOver) : Type 0 where
   pub octets : List ℕ
   pub read : AreRead s script_limit octets
   pub many : script_limit < length octets
 
 -- The line of this number, from 1, is the first of the input that is none.
-pub record HasBadLine (s : SourceSeen) (line : ℕ) : Type 0 where
+pub record HasBadLine (s : SourceOver) (line : ℕ) : Type 0 where
   pub octets : List ℕ
   pub read : AreRead s script_limit octets
   pub few : length octets ≤ script_limit
   pub bad : IsBadLine octets line
 
 -- why a session is refused; running out of memory needs no cause
-abbrev pub IsSessionCause : SourceSeen → Refusal → Type 0
+abbrev pub IsSessionCause : SourceOver → Refusal → Type 0
 IsSessionCause s Memory = ⊤
 IsSessionCause s ReadFault = HasRisen s.faults
 IsSessionCause s LongScript = IsLong s
@@ -67,7 +67,7 @@ pub record IsSessionRefused (x : SessionSeen) (refusal : Refusal) : Type 0 where
   pub untouched : IsUntouched x.stock
 
 -- How a session ends. It was done, and its answers are given, or out failed; or it was refused, and its line is reported, or notes failed.
-abbrev pub HasSession : SessionSeen → SinkSeen → SinkSeen → ℕ → Type 0
+abbrev pub HasSession : SessionSeen → SinkOver → SinkOver → ℕ → Type 0
 HasSession x out notes status =
     ((made : List ℕ) × IsSessionDone x made × IsGiven out notes made status)
     ⊎ ((refusal : Refusal) × IsSessionRefused x refusal × IsAsBefore out × IsReported notes (line_of [] [] refusal) (status_of refusal) status)
@@ -87,6 +87,6 @@ pub record IsNotRun (script : List ℕ) (stock : StockSeen) (refusal : Refusal) 
   pub untouched : IsUntouched stock
 
 -- a refusal is reported, or want of memory in its place
-abbrev pub IsRefusalDelivered : SinkSeen → SinkSeen → Refusal → ℕ → Type 0
+abbrev pub IsRefusalDelivered : SinkOver → SinkOver → Refusal → ℕ → Type 0
 IsRefusalDelivered out notes refusal status =
     IsAsBefore out × (IsReported notes (line_of [] [] refusal) (status_of refusal) status ⊎ IsReported notes (codes "want of memory\n") 5 status)

@@ -1,6 +1,6 @@
 // A script is read and run, and what it comes to is written.
 ghost use Rattle.std.specs.Prelude.{◌≡◌, ◌≢◌, ◌⊎◌, ℕ, List, [], ◌∷◌, MatchResult};
-ghost use Rattle.nd_base.specs.Over.{Rose, source_seen, sink_seen};
+ghost use Rattle.nd_base.specs.Over.{Rose, source_over, sink_over};
 ghost use Rattle.command_refusals.specs.declared.refusal.Refusal.{Refusal as Why};
 ghost use Rattle.command_streams.specs.Input.{AreGiven};
 ghost use Rattle.command_streams.specs.Delivery.{IsOneOf, IsCompleted, IsGiven};
@@ -38,35 +38,35 @@ pub fn session<S: Source, K: Sink, N: Sink, R: Resource>(
     stock: &mut StockOf<R>,
 ) -> Status
     requires fresh { AreFresh (fresh_seen R.shows stock.old) }
-    ensures whole { HasSession (session_over (source_seen S.left S.ended S.faults input.old input.new) (stock_over R.shows stock.old stock.new))
-        (sink_seen K.written K.faults out.old out.new)
-        (sink_seen N.written N.faults notes.old notes.new) result }
+    ensures whole { HasSession (session_over (source_over S.seen input.old input.new) (stock_over R.shows stock.old stock.new))
+        (sink_over K.seen out.old out.new)
+        (sink_over N.seen notes.old notes.new) result }
     // What each status says.
     ensures statuses { IsOneOf (0 ∷ 1 ∷ 3 ∷ 4 ∷ 5 ∷ []) result }
     ensures done { result ≡ 0 → IsAnswered
-        (session_over (source_seen S.left S.ended S.faults input.old input.new) (stock_over R.shows stock.old stock.new))
-        (sink_seen K.written K.faults out.old out.new)
-        (sink_seen N.written N.faults notes.old notes.new) }
+        (session_over (source_over S.seen input.old input.new) (stock_over R.shows stock.old stock.new))
+        (sink_over K.seen out.old out.new)
+        (sink_over N.seen notes.old notes.new) }
     ensures refused { result ≢ 0 → result ≢ 4 → IsRefusedWith
-        (session_over (source_seen S.left S.ended S.faults input.old input.new) (stock_over R.shows stock.old stock.new))
-        (sink_seen K.written K.faults out.old out.new)
-        (sink_seen N.written N.faults notes.old notes.new) result }
+        (session_over (source_over S.seen input.old input.new) (stock_over R.shows stock.old stock.new))
+        (sink_over K.seen out.old out.new)
+        (sink_over N.seen notes.old notes.new) result }
     ensures write { result ≡ 4
-        → IsCutShort (session_over (source_seen S.left S.ended S.faults input.old input.new) (stock_over R.shows stock.old stock.new))
-        (sink_seen K.written K.faults out.old out.new)
-        (sink_seen N.written N.faults notes.old notes.new)
-        ⊎ IsUnreported (session_over (source_seen S.left S.ended S.faults input.old input.new) (stock_over R.shows stock.old stock.new))
-        (sink_seen K.written K.faults out.old out.new)
-        (sink_seen N.written N.faults notes.old notes.new) }
+        → IsCutShort (session_over (source_over S.seen input.old input.new) (stock_over R.shows stock.old stock.new))
+        (sink_over K.seen out.old out.new)
+        (sink_over N.seen notes.old notes.new)
+        ⊎ IsUnreported (session_over (source_over S.seen input.old input.new) (stock_over R.shows stock.old stock.new))
+        (sink_over K.seen out.old out.new)
+        (sink_over N.seen notes.old notes.new) }
     ensures unfailed { HasNotFailed
-        (session_over (source_seen S.left S.ended S.faults input.old input.new) (stock_over R.shows stock.old stock.new))
-        (sink_seen K.written K.faults out.old out.new)
-        (sink_seen N.written N.faults notes.old notes.new) → IsOneOf (0 ∷ 1 ∷ 5 ∷ []) result }
+        (session_over (source_over S.seen input.old input.new) (stock_over R.shows stock.old stock.new))
+        (sink_over K.seen out.old out.new)
+        (sink_over N.seen notes.old notes.new) → IsOneOf (0 ∷ 1 ∷ 5 ∷ []) result }
     // Which of these comes, where the octets of the input are known and no fetch fails, and notes do not.
-    ensures complete { (octets : List ℕ) → AreGiven (source_seen S.left S.ended S.faults input.old input.new) octets → IsScript octets
-        → (Rose (N.faults notes.old) (N.faults notes.new) → ⊥) → IsCompleted (sink_seen K.written K.faults out.old out.new) result }
-    ensures exactly { (octets : List ℕ) (r : Why) → AreGiven (source_seen S.left S.ended S.faults input.old input.new) octets → IsNoScript octets r
-        → (Rose (N.faults notes.old) (N.faults notes.new) → ⊥) → Refuses (sink_seen N.written N.faults notes.old notes.new) result r }
+    ensures complete { (octets : List ℕ) → AreGiven (source_over S.seen input.old input.new) octets → IsScript octets
+        → (Rose (N.seen notes.old).faults (N.seen notes.new).faults → ⊥) → IsCompleted (sink_over K.seen out.old out.new) result }
+    ensures exactly { (octets : List ℕ) (r : Why) → AreGiven (source_over S.seen input.old input.new) octets → IsNoScript octets r
+        → (Rose (N.seen notes.old).faults (N.seen notes.new).faults → ⊥) → Refuses (sink_over N.seen notes.old notes.new) result r }
 {
     let done = perform(alloc, input, stock);
     write(alloc, done, out, notes)
@@ -80,10 +80,10 @@ fn write<K: Sink, N: Sink>(
     notes: &mut N,
 ) -> Status
     ensures { MatchResult done
-        (λ made. IsGiven (sink_seen K.written K.faults out.old out.new) (sink_seen N.written N.faults notes.old notes.new) made result)
+        (λ made. IsGiven (sink_over K.seen out.old out.new) (sink_over N.seen notes.old notes.new) made result)
         (λ refusal. IsRefusalDelivered
-        (sink_seen K.written K.faults out.old out.new)
-        (sink_seen N.written N.faults notes.old notes.new) refusal result) }
+        (sink_over K.seen out.old out.new)
+        (sink_over N.seen notes.old notes.new) refusal result) }
 {
     match done {
         Ok(made) => {
@@ -105,8 +105,8 @@ fn perform<S: Source, R: Resource>(
 ) -> Result<Octets, Refusal>
     requires fresh { AreFresh (fresh_seen R.shows stock.old) }
     ensures { MatchResult result
-        (IsSessionDone (session_over (source_seen S.left S.ended S.faults input.old input.new) (stock_over R.shows stock.old stock.new)))
-        (IsSessionRefused (session_over (source_seen S.left S.ended S.faults input.old input.new) (stock_over R.shows stock.old stock.new))) }
+        (IsSessionDone (session_over (source_over S.seen input.old input.new) (stock_over R.shows stock.old stock.new)))
+        (IsSessionRefused (session_over (source_over S.seen input.old input.new) (stock_over R.shows stock.old stock.new))) }
 {
     let script = read_input(alloc, input, SCRIPT_LIMIT as u32)?;
     run(alloc, script.as_slice(), stock)

@@ -5,12 +5,12 @@ use Rattle.std.proofs.lemmas.List.{append-nil, take_all as take_whole}
 use Rattle.std.proofs.lemmas.Bool.{leb-true, leb-false}
 use Rattle.std.specs.Prelude.{leb, Bool, true, false}
 use Rattle.std.specs.Io.KnownBytes.{Consumes, IsAtEnd}
-use Rattle.nd_base.specs.Over.{SourceSeen}
+use Rattle.nd_base.specs.Over.{SourceOver}
 use Rattle.command_streams.specs.Input.{AreRead, IsInput, AreGiven}
 use Rattle.nd_lemmas.proofs.Lists.{take_front}
 
 -- the octets that were read are those of the input that count
-module _ (s : SourceSeen) (limit : ℕ) (octets others : List ℕ) (input : IsInput s limit octets) (read : AreRead s limit others) where
+module _ (s : SourceOver) (limit : ℕ) (octets others : List ℕ) (input : IsInput s limit octets) (read : AreRead s limit others) where
   by_length : (ys : List ℕ) → input.all ≡ others ++ ys → (length others < limit + 1 → ys ≡ []) → (t : Bool)
       → leb (limit + 1) (length others) ≡ t → others ≡ octets
   by_length ys whole over true e =
@@ -37,6 +37,6 @@ split_by None now octets taken e c = cc
 split_by (Some xs) None octets taken e c = absurd c
 split_by (Some xs) (Some ys) octets taken e c = (ys, refl, sym (same_Some _ _ e) ∙ c)
 
-pub split_input : (s : SourceSeen) (octets taken : List ℕ) → AreGiven s octets → Consumes s.left s.left_now taken
+pub split_input : (s : SourceOver) (octets taken : List ℕ) → AreGiven s octets → Consumes s.left s.left_now taken
     → (rest : List ℕ) × (s.left_now ≡ Some rest) × (octets ≡ taken ++ rest)
 split_input s octets taken input c = split_by s.left s.left_now octets taken input.left c

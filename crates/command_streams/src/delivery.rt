@@ -1,6 +1,6 @@
 // What a run came to is written.
 ghost use Rattle.std.specs.Prelude.{◌≡◌, ◌⊎◌};
-ghost use Rattle.nd_base.specs.Over.{sink_seen};
+ghost use Rattle.nd_base.specs.Over.{sink_over};
 ghost use Rattle.command_refusals.specs.Lines.{status_of, line_of};
 ghost use Rattle.command_streams.specs.Delivery.{IsDelivered, IsGiven, IsReported, IsTold};
 
@@ -35,8 +35,8 @@ pub fn refusal_outcome(alloc: Global, idl: &str, op: &str, refusal: &Refusal) ->
 /// Writes what a run came to, and returns the exit status. Takes no memory.
 pub fn deliver<K: Sink, N: Sink>(outcome: &Outcome, out: &mut K, notes: &mut N) -> Status
     ensures { IsDelivered
-        (sink_seen K.written K.faults out.old out.new)
-        (sink_seen N.written N.faults notes.old notes.new) outcome.now result }
+        (sink_over K.seen out.old out.new)
+        (sink_over N.seen notes.old notes.new) outcome.now result }
 {
     match outcome {
         Outcome::Done(text) => give(text.as_slice(), out, notes),
@@ -50,8 +50,8 @@ pub fn deliver<K: Sink, N: Sink>(outcome: &Outcome, out: &mut K, notes: &mut N) 
 
 fn give<K: Sink, N: Sink>(text: &[u8], out: &mut K, notes: &mut N) -> Status
     ensures { IsGiven
-        (sink_seen K.written K.faults out.old out.new)
-        (sink_seen N.written N.faults notes.old notes.new) text.now result }
+        (sink_over K.seen out.old out.new)
+        (sink_over N.seen notes.old notes.new) text.now result }
 {
     match out.put(text) {
         Ok(()) => DONE,
@@ -63,7 +63,7 @@ fn give<K: Sink, N: Sink>(text: &[u8], out: &mut K, notes: &mut N) -> Status
 }
 
 fn report<N: Sink>(status: Status, line: &[u8], notes: &mut N) -> Status
-    ensures { IsReported (sink_seen N.written N.faults notes.old notes.new) line.now status result }
+    ensures { IsReported (sink_over N.seen notes.old notes.new) line.now status result }
 {
     match notes.put(line) {
         Ok(()) => status,
@@ -80,8 +80,8 @@ fn tell<K: Sink, N: Sink>(
     notes: &mut N,
 ) -> Status
     ensures { IsTold
-        (sink_seen K.written K.faults out.old out.new)
-        (sink_seen N.written N.faults notes.old notes.new) text.now line.now status result }
+        (sink_over K.seen out.old out.new)
+        (sink_over N.seen notes.old notes.new) text.now line.now status result }
 {
     match out.put(text) {
         Ok(()) => report(status, line, notes),

@@ -1,7 +1,7 @@
 // The four octets of a label are fetched, and the order that they state is answered.
 ghost use Rattle.std.specs.Prelude.{◌≡◌, ◌≤◌, ◌+◌, ◌<◌, List, ℕ, Option, take, length, true, IfOk, IfErr};
 ghost use Rattle.std.specs.Io.KnownBytes.{Consumes, IsAtEnd};
-ghost use Rattle.nd_base.specs.Over.{source_seen};
+ghost use Rattle.nd_base.specs.Over.{source_over};
 ghost use Rattle.command_streams.specs.Input.{HasLabel, IsLabelCause, IsReadFault};
 
 use command_refusals::Refusal;
@@ -17,9 +17,9 @@ use ndr_prim::read_label;
 ///
 /// Takes no memory.
 pub fn take_label<S: Source>(input: &mut S) -> Result<Order, Refusal>
-    ensures label { IfOk result (HasLabel (source_seen S.left S.ended S.faults input.old input.new)) }
-    ensures refused { IfErr result (IsLabelCause (source_seen S.left S.ended S.faults input.old input.new)) }
-    ensures later { S.faults input.old ≤ S.faults input.new }
+    ensures label { IfOk result (HasLabel (source_over S.seen input.old input.new)) }
+    ensures refused { IfErr result (IsLabelCause (source_over S.seen input.old input.new)) }
+    ensures later { (S.seen input.old).faults ≤ (S.seen input.new).faults }
 {
     let mut octets = [0u8; 4];
     fill(input, &mut octets)?;
@@ -31,9 +31,9 @@ pub fn take_label<S: Source>(input: &mut S) -> Result<Order, Refusal>
 
 // Fetches octets until there are four.
 fn fill<S: Source>(input: &mut S, octets: &mut [u8; 4]) -> Result<(), Refusal>
-    ensures taken { IfOk result (λ _. Consumes (S.left input.old) (S.left input.new) octets.new) }
-    ensures refused { IfErr result (IsLabelCause (source_seen S.left S.ended S.faults input.old input.new)) }
-    ensures later { S.faults input.old ≤ S.faults input.new }
+    ensures taken { IfOk result (λ _. Consumes (S.seen input.old).left (S.seen input.new).left octets.new) }
+    ensures refused { IfErr result (IsLabelCause (source_over S.seen input.old input.new)) }
+    ensures later { (S.seen input.old).faults ≤ (S.seen input.new).faults }
 {
     let mut came = 0usize;
     while came < 4 {
@@ -50,11 +50,11 @@ fn fill<S: Source>(input: &mut S, octets: &mut [u8; 4]) -> Result<(), Refusal>
 fn fetch_some<S: Source>(input: &mut S, octets: &mut [u8; 4], came: usize) -> Result<usize, Refusal>
     requires fewer { came < 4 }
     ensures bound { IfOk result (λ n. came + n ≤ 4) }
-    ensures octets { IfOk result (λ n. (start : Option (List ℕ)) → Consumes start (S.left input.old) (take came octets.old)
-        → Consumes start (S.left input.new) (take (came + n) octets.new)) }
-    ensures end { IfOk result (λ n. n ≡ 0 → (S.ended input.new ≡ true) × IsAtEnd (S.left input.new)) }
-    ensures fault { IfErr result (IsReadFault (source_seen S.left S.ended S.faults input.old input.new)) }
-    ensures later { S.faults input.old ≤ S.faults input.new }
+    ensures octets { IfOk result (λ n. (start : Option (List ℕ)) → Consumes start (S.seen input.old).left (take came octets.old)
+        → Consumes start (S.seen input.new).left (take (came + n) octets.new)) }
+    ensures end { IfOk result (λ n. n ≡ 0 → ((S.seen input.new).ended ≡ true) × IsAtEnd (S.seen input.new).left) }
+    ensures fault { IfErr result (IsReadFault (source_over S.seen input.old input.new)) }
+    ensures later { (S.seen input.old).faults ≤ (S.seen input.new).faults }
 {
     match input.fetch(&mut octets[came..]) {
         Ok(count) => Ok(count),

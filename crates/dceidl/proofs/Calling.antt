@@ -2,7 +2,7 @@
 use Rattle.std.proofs.Common.{◌≡◌, ◌∙◌, ℕ, ◌<◌, ◌≤◌, ◌^◌, List, length, Option, Some, Result, Ok, Err, IfOk, IfErr, refl, ap, sym, subst, inr, arith}
 use Rattle.nd_base.specs.declared.TheConstants.{STREAM_LIMIT}
 use Rattle.nd_base.specs.declared.octets.Order.{Order}
-use Rattle.nd_base.specs.Over.{FilesSeen, SourceSeen}
+use Rattle.nd_base.specs.Over.{FilesOver, SourceOver}
 use Rattle.nd_types.specs.declared.interface.Interface.{Interface}
 use Rattle.nd_types.specs.declared.types.Operation.{Operation}
 use Rattle.nd_types.specs.declared.types.Side.{Side}
@@ -22,11 +22,11 @@ use Rattle.dceidl.specs.declared.TheConstants.{WRAP_CHUNK}
 -- ## `call`
 
 -- an operation that was found is that of the response
-pub response_ready : (f : FilesSeen) (idl : List ℕ) (acf : Option (List ℕ)) (op : List ℕ) (i : Interface) (n : ℕ) (o : Operation)
+pub response_ready : (f : FilesOver) (idl : List ℕ) (acf : Option (List ℕ)) (op : List ℕ) (i : Interface) (n : ℕ) (o : Operation)
     → IsFound f (record { idl = idl; acf = acf; op = op; side = Out }) i n o → IsCallReady f idl acf (Some op) i (Some n)
 response_ready f idl acf op i n o found = record { compiled = found.compiled; numbered = (n, o, found.named, refl) }
 
-module _ (f : FilesSeen) (s : SourceSeen) (idl : List ℕ) (acf op : Option (List ℕ)) (i : Interface) (number : Option ℕ) (ready : IsCallReady f idl acf op i number) where
+module _ (f : FilesOver) (s : SourceOver) (idl : List ℕ) (acf op : Option (List ℕ)) (i : Interface) (number : Option ℕ) (ready : IsCallReady f idl acf op i number) where
   pub called_done : (result : Result (List ℕ) Refusal) → IfOk result (IsCalled s i number) → IfOk result (HasCalled f s idl acf op)
   called_done (Ok made) h = (i, number, ready, h)
   called_done (Err e) h = tt
@@ -42,12 +42,12 @@ pub few_numbers : (n count : ℕ) → n < count → count ≤ OPERATION_LIMIT �
 few_numbers n count below few = omega (arith, below, few)
 
 -- what is encoded is no longer than a stream may be
-pub short_stub : (s : SourceSeen) (w : Setting) (order : Order) (chunk : ℕ) (stub : List ℕ) → OfText s (λ text. IsLabelledEncoding w (Fixed order) chunk text stub)
+pub short_stub : (s : SourceOver) (w : Setting) (order : Order) (chunk : ℕ) (stub : List ℕ) → OfText s (λ text. IsLabelledEncoding w (Fixed order) chunk text stub)
     → length stub ≤ STREAM_LIMIT
 short_stub s w order chunk stub (text, read, e) = subst (λ (l : List ℕ). length l ≤ STREAM_LIMIT) (sym e.made_is) e.encoding.written.within
 
 -- the fragments of what was encoded on this side
-pub wrapped_is : (f : FilesSeen) (s : SourceSeen) (of : Subject) (order : Order) (call max : ℕ) (i : Interface) (n : ℕ) (o : Operation) (side : Side)
+pub wrapped_is : (f : FilesOver) (s : SourceOver) (of : Subject) (order : Order) (call max : ℕ) (i : Interface) (n : ℕ) (o : Operation) (side : Side)
     (stub made : List ℕ) → side ≡ of.side → IsFound f of i n o → OfText s (λ text. IsLabelledEncoding (setting_of i o side) (Fixed order) WRAP_CHUNK text stub)
     → made ≡ Pieces order (head_for side n) call max stub → IsWrapped f s of order call max made
 wrapped_is f s of order call max i n o side stub made same found encoded is = record {

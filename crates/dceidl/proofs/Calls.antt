@@ -5,7 +5,7 @@ use Rattle.std.proofs.lemmas.List.{append-nil, append_assoc, length-append}
 use Rattle.std.specs.List.{slice_get}
 use Rattle.std.specs.Io.KnownBytes.{IsAtEnd}
 use Rattle.nd_base.specs.declared.octets.Order.{Order}
-use Rattle.nd_base.specs.Over.{SourceSeen}
+use Rattle.nd_base.specs.Over.{SourceOver}
 use Rattle.nd_types.specs.declared.interface.Interface.{Interface}
 use Rattle.nd_types.specs.declared.types.Operation.{Operation}
 use Rattle.nd_types.specs.declared.types.Side.{Side}
@@ -40,7 +40,7 @@ use Rattle.nd_grammar.proofs.LegalSides.{interface_side as legal_side_of}
 
 -- ## Two interfaces of one meaning
 
-module _ (i j : Interface) (types : j.types ≡ i.types) (operations : j.operations ≡ i.operations) (s : SourceSeen) (number : Option ℕ) where
+module _ (i j : Interface) (types : j.types ≡ i.types) (operations : j.operations ≡ i.operations) (s : SourceOver) (number : Option ℕ) where
   setting_over : (o : Operation) (side : Side) → ◌≡◌ {A = Setting} (setting_of j o side) (setting_of i o side)
   setting_over o side = λ k. record { table = types k; op = o; side = side; given = None }
 
@@ -200,7 +200,7 @@ module _ (i : Interface) (number : Option ℕ) (octets : List ℕ) where
 
 -- ## The input
 
-module _ (s : SourceSeen) (octets : List ℕ) (given : AreGiven s octets) (i : Interface) (number : Option ℕ) where
+module _ (s : SourceOver) (octets : List ℕ) (given : AreGiven s octets) (i : Interface) (number : Option ℕ) where
   -- all octets that were read are those of the input
   pub own_is : (own : List ℕ) → IsWhole s own → own ≡ octets
   own_is own whole =

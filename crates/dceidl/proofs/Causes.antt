@@ -20,14 +20,14 @@ use Rattle.command_refusals.specs.declared.refusal.Refusal.{Refusal}
 use Rattle.command_refusals.specs.declared.refusal.Refusal.TheVariants.{Memory, Absent, FileFailed, BadIdl, NoOperation, ReadFault, BadOctets, BadText, BadValue, TooLong, BadRequest, BadLabel}
 use Rattle.command_refusals.specs.declared.refusal.Refusal.TheVariants.{ShortLabel, TooFewEnds, EndFailed}
 use Rattle.command_refusals.specs.declared.refusal.Refusal.TheVariants.{BadPdu, NotCompatible, BadScript, LongScript}
-use Rattle.nd_base.specs.Over.{FilesSeen, SourceSeen}
+use Rattle.nd_base.specs.Over.{FilesOver, SourceOver}
 use Rattle.dceidl.specs.Ready.{IsFound, IsReady, IsReadyCause, IsNotFound}
 use Rattle.command_compile.specs.Compiled.{IsCompiled, IsIdlCause}
 use Rattle.command_streams.specs.Input.{AreRead}
 use Rattle.nd_lemmas.proofs.Lists.{item_at}
 
 -- an interface that files mean, and its operation, are ready
-pub found_is : (f : FilesSeen) (of : Subject) (i : Interface) → IsCompiled f of.idl of.acf i → (result : Result Ready Refusal)
+pub found_is : (f : FilesOver) (of : Subject) (i : Interface) → IsCompiled f of.idl of.acf i → (result : Result Ready Refusal)
     → IfOk result (λ r. r.interface ≡ i) → IfOk result (λ r. operation_named i.operations of.op ≡ Some r.number) → IfOk result (λ r. r.side ≡ of.side)
     → IfOk result (λ r. r.number < length r.interface.operations)
     → IfOk result (λ r. (o : Operation) × IsFound f of r.interface r.number o)
@@ -41,7 +41,7 @@ found_is f of i compiled (Ok r) same named sided known =
     )
 found_is f of i compiled (Err e) same named sided known = tt
 
-pub not_found : (f : FilesSeen) (of : Subject) (i : Interface) → IsCompiled f of.idl of.acf i → (e : Refusal) → IsNotFound i of.op e
+pub not_found : (f : FilesOver) (of : Subject) (i : Interface) → IsCompiled f of.idl of.acf i → (e : Refusal) → IsNotFound i of.op e
     → IsReadyCause f of e
 not_found f of i compiled NoOperation cause = (i, compiled, cause)
 not_found f of i compiled (TooLong many) cause = absurd cause
@@ -64,13 +64,13 @@ not_found f of i compiled (BadScript row) cause = absurd cause
 not_found f of i compiled LongScript cause = absurd cause
 
 -- an operation that is not found is the cause
-pub find_refused : (f : FilesSeen) (of : Subject) (i : Interface) → IsCompiled f of.idl of.acf i → (result : Result Ready Refusal)
+pub find_refused : (f : FilesOver) (of : Subject) (i : Interface) → IsCompiled f of.idl of.acf i → (result : Result Ready Refusal)
     → IfErr result (IsNotFound i of.op) → IfErr result (IsReadyCause f of)
 find_refused f of i compiled (Ok r) cause = tt
 find_refused f of i compiled (Err e) cause = not_found f of i compiled e cause
 
 -- why the files mean no interface is why they are refused
-pub idl_refused : (f : FilesSeen) (of : Subject) (e : Refusal) → IsIdlCause f of.idl of.acf e → IsReadyCause f of e
+pub idl_refused : (f : FilesOver) (of : Subject) (e : Refusal) → IsIdlCause f of.idl of.acf e → IsReadyCause f of e
 idl_refused f of Memory cause = tt
 idl_refused f of (Absent file) cause = cause
 idl_refused f of (FileFailed file) cause = cause
@@ -93,7 +93,7 @@ idl_refused f of LongScript cause = absurd cause
 
 -- ## What is made of the text of the input
 
-module _ (s : SourceSeen) (w : Setting) (text : List ℕ) (read : AreRead s TEXT_LIMIT text) where
+module _ (s : SourceOver) (w : Setting) (text : List ℕ) (read : AreRead s TEXT_LIMIT text) where
   text_cause : (e : Refusal) → IsTextCause w text e → IsInputTextCause s w e
   text_cause Memory cause = tt
   text_cause ReadFault cause = absurd cause
@@ -159,18 +159,18 @@ uncalled ends true = tt
 uncalled ends false = refl
 
 -- the task of the code
-pub made_by : (s : SourceSeen) (e : EndsSeen) (task own : Task) (w : Setting) → task ≡ own → (result : Result (List ℕ) Refusal) → IfOk result (IsMadeOf s e own w)
+pub made_by : (s : SourceOver) (e : EndsSeen) (task own : Task) (w : Setting) → task ≡ own → (result : Result (List ℕ) Refusal) → IfOk result (IsMadeOf s e own w)
     → IfOk result (IsMadeOf s e task w)
 made_by s e task own w is result h = subst (λ t. IfOk result (IsMadeOf s e t w)) (sym is) h
 
-pub refused_by : (s : SourceSeen) (e : EndsSeen) (task own : Task) (w : Setting) → task ≡ own → (result : Result (List ℕ) Refusal) → IfErr result (IsTaskCause s e own w)
+pub refused_by : (s : SourceOver) (e : EndsSeen) (task own : Task) (w : Setting) → task ≡ own → (result : Result (List ℕ) Refusal) → IfErr result (IsTaskCause s e own w)
     → IfErr result (IsTaskCause s e task w)
 refused_by s e task own w is result h = subst (λ t. IfErr result (IsTaskCause s e t w)) (sym is) h
 
 -- ## What a command on values answers
 
 -- what it speaks of is ready, with the side of the code
-pub ready_is : (f : FilesSeen) (of : Subject) (i : Interface) (n : ℕ) (o : Operation) (side : Side) → IsFound f of i n o → side ≡ of.side → IsReady f of (setting_of i o side)
+pub ready_is : (f : FilesOver) (of : Subject) (i : Interface) (n : ℕ) (o : Operation) (side : Side) → IsFound f of i n o → side ≡ of.side → IsReady f of (setting_of i o side)
 ready_is f of i n o side found same = record { interface = i; number = n; operation = o; found = found; setting_is = ap (setting_of i o) same }
 
 module _ (x : Seen) (of : Subject) (w : Setting) (task : Task) (ready : IsReady x.files of w) where

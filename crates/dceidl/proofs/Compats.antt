@@ -1,6 +1,6 @@
 -- What `compat` answers, from what its files mean: its statuses, the files that are due, and what must come where no load fails.
 use Rattle.std.proofs.Common.{◌≡◌, ◌∙◌, ℕ, List, [], ◌∷◌, Option, Some, None, refl, sym, ap, ap₂, subst, inl, inr, ◌⊎◌}
-use Rattle.nd_base.specs.Over.{IsMissing, FilesSeen, HasRisen}
+use Rattle.nd_base.specs.Over.{IsMissing, FilesOver, HasRisen}
 use Rattle.nd_types.specs.declared.interface.Interface.{Interface}
 use Rattle.idl_compat.specs.declared.pairs.TypePair.{TypePair}
 use Rattle.idl_compat.specs.declared.compared.Compared.{Compared}
@@ -29,11 +29,11 @@ Contents = Option (List ℕ → Option (List ℕ))
 
 -- ## Statuses
 
-neither : {B : Type 0} (f : FilesSeen) (old : FileNames) → ⊥ ⊎ AfterFirst f old (λ g. ⊥) → B
+neither : {B : Type 0} (f : FilesOver) (old : FileNames) → ⊥ ⊎ AfterFirst f old (λ g. ⊥) → B
 neither f old (inl cause) = absurd cause
 neither f old (inr a) = absurd a.rest
 
-pub compat_status : (f : FilesSeen) (old new : FileNames) (status : ℕ) (r : Refusal) → IsCompatCause f old new r → status ≡ status_of r
+pub compat_status : (f : FilesOver) (old new : FileNames) (status : ℕ) (r : Refusal) → IsCompatCause f old new r → status ≡ status_of r
     → IsOneOf (0 ∷ 1 ∷ 4 ∷ 5 ∷ 6 ∷ 7 ∷ 9 ∷ []) status
 compat_status f old new status Memory cause e = inr (inr (inr (inl e)))
 compat_status f old new status (Absent file) cause e = inr (inr (inr (inr (inr (inl e)))))
@@ -56,7 +56,7 @@ compat_status f old new status (BadScript line) cause e = neither f old cause
 compat_status f old new status LongScript cause e = neither f old cause
 
 -- files alone are no input
-pub compat_read : (f : FilesSeen) (old new : FileNames) (r : Refusal) → IsCompatCause f old new r → status_of r ≡ 3 → ⊥
+pub compat_read : (f : FilesOver) (old new : FileNames) (r : Refusal) → IsCompatCause f old new r → status_of r ≡ 3 → ⊥
 compat_read f old new Memory cause e = cc
 compat_read f old new (Absent file) cause e = cc
 compat_read f old new (FileFailed file) cause e = cc
@@ -78,17 +78,17 @@ compat_read f old new (BadScript line) cause e = cc
 compat_read f old new LongScript cause e = cc
 
 -- and no end
-pub compat_end : (f : FilesSeen) (old new : FileNames) (which : ℕ) → IsCompatCause f old new (EndFailed which) → ⊥
+pub compat_end : (f : FilesOver) (old new : FileNames) (which : ℕ) → IsCompatCause f old new (EndFailed which) → ⊥
 compat_end f old new which cause = neither f old cause
 
 -- ## Files that are due
 
-due_second : (f : FilesSeen) (old new : FileNames) (mid : List (List ℕ)) (i : Interface) (file : List ℕ) → (c : IsCompiled (first_part f mid) old.idl old.acf i)
+due_second : (f : FilesOver) (old new : FileNames) (mid : List (List ℕ)) (i : Interface) (file : List ℕ) → (c : IsCompiled (first_part f mid) old.idl old.acf i)
     → IsDueOf f.held (Some new) file → IsDueSecond f.held old new file
 due_second f old new mid i file c due = (c.file, i, c.loaded, c.means, due)
 
 -- a file that is absent is due and missing
-pub compat_absent : (f : FilesSeen) (old new : FileNames) (r : Refusal) → IsCompatCause f old new r → status_of r ≡ 7
+pub compat_absent : (f : FilesOver) (old new : FileNames) (r : Refusal) → IsCompatCause f old new r → status_of r ≡ 7
     → HasRisen f.absences
     × ((file : List ℕ) × (r ≡ Absent file) × (IsDueOf f.held (Some old) file ⊎ IsDueSecond f.held old new file) × IsMissing f.held file)
 compat_absent f old new (Absent file) (inl (rose, due, missing)) e = (rose, (file, refl, inl due, missing))
@@ -114,7 +114,7 @@ compat_absent f old new (BadScript line) cause e = cc
 compat_absent f old new LongScript cause e = cc
 
 -- a file that was not read is due
-pub compat_failed : (f : FilesSeen) (old new : FileNames) (r : Refusal) → IsCompatCause f old new r → status_of r ≡ 9
+pub compat_failed : (f : FilesOver) (old new : FileNames) (r : Refusal) → IsCompatCause f old new r → status_of r ≡ 9
     → HasRisen f.faults × ((file : List ℕ) × (r ≡ FileFailed file) × (IsDueOf f.held (Some old) file ⊎ IsDueSecond f.held old new file))
 compat_failed f old new (FileFailed file) (inl (rose, due)) e = (rose, (file, refl, inl due))
 compat_failed f old new (FileFailed file) (inr a) e =
@@ -141,7 +141,7 @@ compat_failed f old new LongScript cause e = cc
 -- ## Where no load fails
 
 -- a cause over the rest of a run is one over the run
-over_all : (f : FilesSeen) (mid : List (List ℕ)) (idl : List ℕ) (acf : Option (List ℕ)) (r : Refusal) → IsIdlCause (second_part f mid) idl acf r
+over_all : (f : FilesOver) (mid : List (List ℕ)) (idl : List ℕ) (acf : Option (List ℕ)) (r : Refusal) → IsIdlCause (second_part f mid) idl acf r
     → IsIdlCause f idl acf r
 over_all f mid idl acf Memory cause = cause
 over_all f mid idl acf (Absent file) cause = cause
@@ -212,7 +212,7 @@ no_reason : {B : Type 0} (i j : Interface) (why : CompatFault) → IsDifferent i
 no_reason i j why (c, h, e) m k = let never : None ≡ Some why = one_reason i (compared.Yes m) c (answers.same i j (compared.Yes m) c k h) ∙ e in absurd (cc)
 
 -- what is compiled over a part of a run is what the held files mean
-compiled_is : (f p : FilesSeen) → p.held ≡ f.held → (named : FileNames) (i j : Interface) → IsHeldInterface f named i → IsCompiled p named.idl named.acf j → j ≡ i
+compiled_is : (f p : FilesOver) → p.held ≡ f.held → (named : FileNames) (i j : Interface) → IsHeldInterface f named i → IsCompiled p named.idl named.acf j → j ≡ i
 compiled_is f p same named i j h c =
     let (held, told, there) = h.held in
     let own : IsHeld p named.idl h.file = (held, same ∙ told, there) in
@@ -220,7 +220,7 @@ compiled_is f p same named i j h c =
     (subst (λ (k : Contents). Means k named.idl h.file named.acf j) (same ∙ told) (means_here p named.idl h.file named.acf own j c))
     (subst (λ (k : Contents). Means k named.idl h.file named.acf i) told h.means)
 
-module _ (f : FilesSeen) (old new : FileNames) where
+module _ (f : FilesOver) (old new : FileNames) where
   -- the causes: memory, the files, and the comparison
   of_cause : (P : Refusal → Type 0) → P Memory → ((r : Refusal) → IsFilesCause f old new r → P r)
       → ((why : CompatFault) → IsNotCompatible f old new why → P (NotCompatible why)) → (r : Refusal) → IsCompatCause f old new r → P r

@@ -4,7 +4,7 @@ use Rattle.std.proofs.lemmas.Option.{same_Some}
 use Rattle.std.specs.List.{slice_get}
 use Rattle.std.specs.Prelude.{slice_set}
 use Rattle.nd_base.specs.declared.octets.Order.{Order}
-use Rattle.nd_base.specs.Over.{Rose, SourceSeen, HasRisen}
+use Rattle.nd_base.specs.Over.{Rose, SourceOver, HasRisen}
 use Rattle.nd_value.specs.Setting.{Setting, root_list}
 use Rattle.ndr_drain_laws.specs.parts.Parts.{Spot, Part, after}
 use Rattle.ndr_pipe.specs.Ends.{EndSeen, EndsSeen, change_at}
@@ -60,7 +60,7 @@ set_there [] i was is there = cc
 set_there (x ∷ xs) zero was is there = refl
 set_there (x ∷ xs) (suc i) was is there = set_there xs i was is there
 
-module _ (s : SourceSeen) (e : EndsSeen) (w : Setting) (order : Order) where
+module _ (s : SourceOver) (e : EndsSeen) (w : Setting) (order : Order) where
   -- the count of an end that failed rose
   pub refused_rose : (which : ℕ) → IsDrainRefusal s e w order (EndFailed which) → EndRose e which
   refused_rose which (enough, (t, h)) =

@@ -1,7 +1,7 @@
 -- Which outcome a command has where no load fails and notes do not.
 use Rattle.std.proofs.Common.{◌≡◌, ℕ, ◌<◌, true, false, List, length, Option, Some, None, refl, sym, ◌∙◌, ap, subst, inl, inr, ◌⊎◌}
 use Rattle.nd_base.specs.declared.octets.Order.{Order}
-use Rattle.nd_base.specs.Over.{FilesSeen, SourceSeen, SinkSeen, HasRisen, Got}
+use Rattle.nd_base.specs.Over.{FilesOver, SourceOver, SinkOver, HasRisen, Got}
 use Rattle.nd_value.specs.Setting.{Setting}
 use Rattle.nd_grammar.specs.LegalSide.{IsLegalSide}
 use Rattle.text_grammar.specs.declared.TheConstants.{TEXT_LIMIT}
@@ -63,10 +63,10 @@ use Rattle.dceidl.proofs.Rows.{Ended, ended_done, ended_refused, ended_unknown, 
 -- ## The input, by what its octets come to
 
 -- all octets that are read of the input to its end or past a limit are those that count
-of_text : (s : SourceSeen) (text : List ℕ) → IsInput s TEXT_LIMIT text → (P : List ℕ → Type 0) → OfText s P → P text
+of_text : (s : SourceOver) (text : List ℕ) → IsInput s TEXT_LIMIT text → (P : List ℕ → Type 0) → OfText s P → P text
 of_text s text input P (others, read, h) = subst P (same_octets s TEXT_LIMIT text others input read) h
 
-text_causes : (s : SourceSeen) (w : Setting) (text : List ℕ) → IsInput s TEXT_LIMIT text → (P : Refusal → Type 0) → P Memory
+text_causes : (s : SourceOver) (w : Setting) (text : List ℕ) → IsInput s TEXT_LIMIT text → (P : Refusal → Type 0) → P Memory
     → ((r : Refusal) → IsTextCause w text r → P r) → (r : Refusal) → IsInputTextCause s w r → P r
 text_causes s w text input P wanting by Memory cause = wanting
 text_causes s w text input P wanting by ReadFault rose = absurd (input.reads rose)
@@ -90,7 +90,7 @@ text_causes s w text input P wanting by (BadScript row) cause = by (BadScript ro
 text_causes s w text input P wanting by LongScript cause = by LongScript (of_text s text input (λ l. IsTextCause w l LongScript) cause)
 
 -- the same of a text that is encoded
-encoding_causes : (s : SourceSeen) (w : Setting) (chunk : ℕ) (text : List ℕ) → IsInput s TEXT_LIMIT text → (P : Refusal → Type 0) → P Memory
+encoding_causes : (s : SourceOver) (w : Setting) (chunk : ℕ) (text : List ℕ) → IsInput s TEXT_LIMIT text → (P : Refusal → Type 0) → P Memory
     → ((r : Refusal) → IsEncodingCause w chunk text r → P r) → (r : Refusal) → IsInputEncodingCause s w chunk r → P r
 encoding_causes s w chunk text input P wanting by (TooLong many) cause = by (TooLong many) (of_text s text input (λ l. IsLongEncoding w chunk l many) cause)
 encoding_causes s w chunk text input P wanting by Memory cause = wanting
@@ -115,7 +115,7 @@ encoding_causes s w chunk text input P wanting by LongScript cause = by LongScri
 
 -- ## The input, by what is done
 
-module _ (s : SourceSeen) (e : EndsSeen) (w : Setting) (legal : IsLegalSide w) where
+module _ (s : SourceOver) (e : EndsSeen) (w : Setting) (legal : IsLegalSide w) where
   -- an input of which something can be made is not refused
   made_cause : (task : Task) → CanBeMade s e task w → (r : Refusal) → IsTaskCause s e task w r → r ≡ Memory
   made_cause (Read how word) (order, octets, g, given, represents, conforms, ends) r (inl (cause, kept)) = absurd (never_unopened s order octets word given r cause)
@@ -644,7 +644,7 @@ module _ (x : Seen) (c : Command) (loads : HasRisen x.files.faults → ⊥) wher
       by (inl e) one = let never : status_of Memory ≡ 1 = sym (ap status_of e) ∙ one in cc
       by (inr e) one = e
 
-module _ (x : Seen) (out notes : SinkSeen) (c : Command) (status : ℕ) (sound : IsSound x notes) (end : Ended x out notes c status) where
+module _ (x : Seen) (out notes : SinkOver) (c : Command) (status : ℕ) (sound : IsSound x notes) (end : Ended x out notes c status) where
   pub complete : CanBeDone x c → IsCompleted out status
   complete can = by end
     where

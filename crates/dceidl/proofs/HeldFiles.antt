@@ -3,7 +3,7 @@ use Rattle.std.proofs.Common.{◌≡◌, ℕ, List, Option, Some, None, refl, sy
 use Rattle.std.specs.List.{slice_get}
 use Rattle.std.specs.Prelude.{option_map, true, false}
 use Rattle.std.proofs.lemmas.Option.{same_Some}
-use Rattle.nd_base.specs.Over.{IsContent, IsMissing, loaded, FilesSeen, HasRisen}
+use Rattle.nd_base.specs.Over.{IsContent, IsMissing, loaded, FilesOver, HasRisen}
 use Rattle.nd_types.specs.declared.interface.Interface.{Interface}
 use Rattle.nd_types.specs.declared.types.Operation.{Operation}
 use Rattle.nd_types.specs.declared.types.Side.{Side}
@@ -29,20 +29,20 @@ abbrev Contents : Type 0
 Contents = Option (List ℕ → Option (List ℕ))
 
 -- only the held file can have been loaded
-pub held_only : (f : FilesSeen) (name file other : List ℕ) → IsHeld f name file → IsContent f.held name other → other ≡ file
+pub held_only : (f : FilesOver) (name file other : List ℕ) → IsHeld f name file → IsContent f.held name other → other ≡ file
 held_only f name file other (held, told, there) content =
     let loaded_is : option_map loaded (held name) ≡ Some other = subst (λ h. IsContent h name other) told content in
     same_Some _ _ (sym loaded_is ∙ there)
 
 -- and it is not absent
-pub held_there : (f : FilesSeen) (name file : List ℕ) → IsHeld f name file → IsMissing f.held name → ⊥
+pub held_there : (f : FilesOver) (name file : List ℕ) → IsHeld f name file → IsMissing f.held name → ⊥
 held_there f name file (held, told, there) missing =
     let gone : held name ≡ None = subst (λ h. IsMissing h name) told missing in
     let none : Some file ≡ None = sym there ∙ ap (option_map loaded) gone in
     cc
 
 -- The main file is held: what its files mean, and how they are refused.
-module _ (f : FilesSeen) (idl text : List ℕ) (acf : Option (List ℕ)) (held : IsHeld f idl text) where
+module _ (f : FilesOver) (idl text : List ℕ) (acf : Option (List ℕ)) (held : IsHeld f idl text) where
   -- they mean one interface, as far as it is read from them
   pub one_meaning : (i j : Interface) → Means f.held idl text acf i → Means f.held idl text acf j → meant_by i ≡ meant_by j
   one_meaning i j x y =
@@ -98,7 +98,7 @@ unknown_or_named i j op n o e none named =
 
 -- ## The files of a command
 
-module _ (f : FilesSeen) (idl : List ℕ) (acf : Option (List ℕ)) (loads : HasRisen f.faults → ⊥) where
+module _ (f : FilesOver) (idl : List ℕ) (acf : Option (List ℕ)) (loads : HasRisen f.faults → ⊥) where
   -- files that mean an interface are not refused
   pub compiled_cause : (text : List ℕ) (i : Interface) → IsHeld f idl text → Means f.held idl text acf i → (r : Refusal) → IsIdlCause f idl acf r → r ≡ Memory
   compiled_cause text i held means Memory cause = refl
@@ -191,7 +191,7 @@ module _ (f : FilesSeen) (idl : List ℕ) (acf : Option (List ℕ)) (loads : Has
 
 -- ## What a command on values speaks of
 
-module _ (f : FilesSeen) (of : Subject) where
+module _ (f : FilesOver) (of : Subject) where
   -- what is accepted is ready in one way
   pub one_setting : (w v : Setting) → IsAccepted f of w → IsReady f of v → v ≡ w
   one_setting w v a r =

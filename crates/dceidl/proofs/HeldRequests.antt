@@ -1,6 +1,6 @@
 -- What is accepted beside the request of a file that is held, and how it is refused where no load fails.
 use Rattle.std.proofs.Common.{◌≡◌, ℕ, List, Option, Some, None, refl, sym, ◌∙◌, ap, subst, inl, inr, ◌⊎◌}
-use Rattle.nd_base.specs.Over.{FilesSeen, HasRisen}
+use Rattle.nd_base.specs.Over.{FilesOver, HasRisen}
 use Rattle.nd_value.specs.declared.value.Graph.{Graph}
 use Rattle.nd_value.specs.Setting.{Setting}
 use Rattle.nd_grammar.specs.LegalSide.{IsLegalSide}
@@ -19,7 +19,7 @@ use Rattle.dceidl.proofs.HeldFiles.{held_only, held_there, one_setting, accepted
 use Rattle.nd_grammar.proofs.LegalSides.{interface_side as legal_side_of}
 
 -- the side of what is accepted is legal, and so are the inputs of its operation
-pub legal_of : (f : FilesSeen) (of : Subject) (w : Setting) → IsAccepted f of w → IsLegalSide w
+pub legal_of : (f : FilesOver) (of : Subject) (w : Setting) → IsAccepted f of w → IsLegalSide w
 legal_of f of w a = subst IsLegalSide (sym a.setting_is) (legal_side_of a.interface a.number a.operation of.side a.named.is_there)
 
 legal_inputs : (w : Setting) → IsLegalSide w → IsLegalSide (inputs w)
@@ -28,12 +28,12 @@ legal_inputs w legal = record { operations = legal.operations; legal = legal.leg
 legal_beside : (w : Setting) (q : Graph) → IsLegalSide w → IsLegalSide (beside w q)
 legal_beside w q legal = record { operations = legal.operations; legal = legal.legal; operation = legal.operation }
 
-pub legal_all : (f : FilesSeen) (of : Subject) (given : Option (List ℕ)) (w : Setting) → AreAccepted f of given w → IsLegalSide w
+pub legal_all : (f : FilesOver) (of : Subject) (given : Option (List ℕ)) (w : Setting) → AreAccepted f of given w → IsLegalSide w
 legal_all f of None w a = legal_of f of w a
 legal_all f of (Some name) w a = subst IsLegalSide (sym a.setting_is) (legal_beside a.own a.request (legal_of f of a.own a.accepted))
 
 -- Over a part of a run, files mean what they mean over all of it.
-module _ (f : FilesSeen) (of : Subject) (asked : List (List ℕ)) where
+module _ (f : FilesOver) (of : Subject) (asked : List (List ℕ)) where
   accepted_up_to : (w : Setting) → IsAccepted f of w → IsAccepted (up_to f asked) of w
   accepted_up_to w a = record {
     file = a.file;
@@ -67,7 +67,7 @@ module _ (f : FilesSeen) (of : Subject) (asked : List (List ℕ)) where
   must_up_to (BadScript row) must = absurd must
   must_up_to LongScript must = absurd must
 
-module _ (f : FilesSeen) (of : Subject) (name : List ℕ) where
+module _ (f : FilesOver) (of : Subject) (name : List ℕ) where
   -- what has the request asked for is ready in one way
   one_own : (own w : Setting) → IsAccepted f of own → HasAsked f of name w → w ≡ own
   one_own own w a h = one_setting (up_to f h.earlier) of own w (accepted_up_to f of h.earlier own a) h.ready
@@ -139,7 +139,7 @@ module _ (f : FilesSeen) (of : Subject) (name : List ℕ) where
 
 -- ## With a request or without one
 
-module _ (f : FilesSeen) (of : Subject) where
+module _ (f : FilesOver) (of : Subject) where
   pub all_one : (given : Option (List ℕ)) (w v : Setting) → AreAccepted f of given w → IsAllReady f of given v → v ≡ w
   all_one None w v a r = one_setting f of w v a r
   all_one (Some name) w v a r = beside_one f of name w v a r

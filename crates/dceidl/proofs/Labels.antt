@@ -3,7 +3,7 @@ use Rattle.std.proofs.Common.{◌≡◌, ℕ, ◌+◌, ◌<◌, ◌≤◌, Bool,
 use Rattle.std.proofs.lemmas.List.{append-nil, length-append, drop_at}
 use Rattle.std.specs.Io.KnownBytes.{Consumes, IsAtEnd}
 use Rattle.nd_base.specs.declared.octets.Order.{Order}
-use Rattle.nd_base.specs.Over.{Rose, SourceSeen, HasRisen}
+use Rattle.nd_base.specs.Over.{Rose, SourceOver, HasRisen}
 use Rattle.nd_base.proofs.Rising.{rose_later}
 use Rattle.nd_value.specs.Setting.{Setting}
 use Rattle.command_streams.specs.Input.{HasLabel, IsShortLabel, IsLabelCause, AreGiven}
@@ -24,17 +24,17 @@ use Rattle.command_streams.proofs.OneInput.{split_by}
 use Rattle.nd_lemmas.proofs.Lists.{take_front}
 
 -- a source over a call
-abbrev pub over : Option (List ℕ) → Option (List ℕ) → Bool → ℕ → ℕ → SourceSeen
+abbrev pub over : Option (List ℕ) → Option (List ℕ) → Bool → ℕ → ℕ → SourceOver
 over left now ended before after = record { left = left; left_now = now; ended = ended; faults = record { before = before; now = after } }
 
 -- ## What is read after a label, and in an order that the command names
 
 module _ (l m n : Option (List ℕ)) (u t : Bool) (f0 f1 f2 : ℕ) (later : f0 ≤ f1) (order : Order) (is : HasLabel (over l m u f0 f1) order) (how : Reading) (e : EndsSeen)
     (w : Setting) where
-  abbrev source_all : SourceSeen
+  abbrev source_all : SourceOver
   source_all = over l n t f0 f2
 
-  abbrev source_after : SourceSeen
+  abbrev source_after : SourceOver
   source_after = over m n t f1 f2
 
   opened : IsAfterLabel source_all source_after order
@@ -48,7 +48,7 @@ module _ (l m n : Option (List ℕ)) (u t : Bool) (f0 f1 f2 : ℕ) (later : f0 �
   labelled_refused (Ok made) cause = tt
   labelled_refused (Err r) cause = inr (source_after, order, opened, cause)
 
-module _ (s : SourceSeen) (e : EndsSeen) (w : Setting) (how : Reading) (order : Order) where
+module _ (s : SourceOver) (e : EndsSeen) (w : Setting) (how : Reading) (order : Order) where
   pub fixed_made : (result : Result (List ℕ) Refusal) → IfOk result (IsMadeReading how s e w order) → IfOk result (IsMadeOf s e (Read how (Fixed order)) w)
   fixed_made (Ok made) m = (s, order, (refl, refl), m)
   fixed_made (Err r) m = tt
@@ -58,14 +58,14 @@ module _ (s : SourceSeen) (e : EndsSeen) (w : Setting) (how : Reading) (order : 
   fixed_refused (Err r) cause = inr (s, order, (refl, refl), cause)
 
 -- the way of reading of the code
-pub made_reading : (s : SourceSeen) (e : EndsSeen) (w : Setting) (order : Order) (how own : Reading) → how ≡ own → (result : Result (List ℕ) Refusal)
+pub made_reading : (s : SourceOver) (e : EndsSeen) (w : Setting) (order : Order) (how own : Reading) → how ≡ own → (result : Result (List ℕ) Refusal)
     → IfOk result (IsMadeReading own s e w order) → IfOk result (IsMadeReading how s e w order)
 made_reading s e w order how own same result m = subst (λ h. IfOk result (IsMadeReading h s e w order)) (sym same) m
 
 -- ## Where the input is known
 
 -- four octets that were taken are the first four
-module _ (s : SourceSeen) (a octets : List ℕ) (left : s.left ≡ Some (a ++ octets)) (four : length a ≡ 4) where
+module _ (s : SourceOver) (a octets : List ℕ) (left : s.left ≡ Some (a ++ octets)) (four : length a ≡ 4) where
   same_label : (now : Option (List ℕ)) (b : List ℕ) → Consumes s.left now b → length b ≡ 4 → a ≡ b
   same_label now b taken also =
       let (more, is, whole) = split_by s.left now (a ++ octets) b left taken in
@@ -78,7 +78,7 @@ module _ (s : SourceSeen) (a octets : List ℕ) (left : s.left ≡ Some (a ++ oc
       is ∙ ap Some (sym same)
 
 -- an input that was taken whole and is shorter than a label
-fewer_than_four : (s : SourceSeen) (all : List ℕ) → s.left ≡ Some all → IsShortLabel s → length all < 4
+fewer_than_four : (s : SourceOver) (all : List ℕ) → s.left ≡ Some all → IsShortLabel s → length all < 4
 fewer_than_four s all left h =
     let (rest, is, whole) = split_by s.left s.left_now all h.label left h.taken in
     let none : rest ≡ [] = subst IsAtEnd is h.none_left in
@@ -86,7 +86,7 @@ fewer_than_four s all left h =
     let short = h.short in
     omega (arith, many, short)
 
-at_least_four : (s : SourceSeen) (all : List ℕ) → s.left ≡ Some all → (now : Option (List ℕ)) (label : List ℕ) → Consumes s.left now label → length label ≡ 4 → 4 ≤ length all
+at_least_four : (s : SourceOver) (all : List ℕ) → s.left ≡ Some all → (now : Option (List ℕ)) (label : List ℕ) → Consumes s.left now label → length label ≡ 4 → 4 ≤ length all
 at_least_four s all left now label taken four =
     let (rest, is, whole) = split_by s.left now all label left taken in
     let many : length all ≡ length label + length rest = ap length whole ∙ length-append label rest in
@@ -111,12 +111,12 @@ one_fault label other why because same x y =
     cc
 
 -- The octets of the input are known, after a label of this order if the command asks for one.
-module _ (s : SourceSeen) (order : Order) (octets : List ℕ) where
-  reads_after : (rest : SourceSeen) (other : Order) → IsAfterLabel s rest other → (HasRisen s.faults → ⊥) → HasRisen rest.faults → ⊥
+module _ (s : SourceOver) (order : Order) (octets : List ℕ) where
+  reads_after : (rest : SourceOver) (other : Order) → IsAfterLabel s rest other → (HasRisen s.faults → ⊥) → HasRisen rest.faults → ⊥
   reads_after rest other o reads rose = reads (rose_later s.faults.before rest.faults.before s.faults.now o.later (subst (λ k. Rose rest.faults.before k) o.faults rose))
 
   -- what is read is these octets
-  pub given_after : (word : OrderWord) → AreGivenIn s word order octets → (rest : SourceSeen) (other : Order) → IsOpened word s rest other → AreGiven rest octets
+  pub given_after : (word : OrderWord) → AreGivenIn s word order octets → (rest : SourceOver) (other : Order) → IsOpened word s rest other → AreGiven rest octets
   given_after (Fixed named) g rest other (same, is) =
       subst (λ r. AreGiven r octets) (sym same) (subst (λ l. AreGiven s (l ++ octets)) g.is_label.0 g.given)
   given_after Label g rest other o = record {
@@ -125,7 +125,7 @@ module _ (s : SourceSeen) (order : Order) (octets : List ℕ) where
   }
 
   -- in this order
-  pub one_order : (word : OrderWord) → AreGivenIn s word order octets → (rest : SourceSeen) (other : Order) → IsOpened word s rest other → other ≡ order
+  pub one_order : (word : OrderWord) → AreGivenIn s word order octets → (rest : SourceOver) (other : Order) → IsOpened word s rest other → other ≡ order
   one_order (Fixed named) g rest other (same, is) = is ∙ sym g.is_label.1
   one_order Label g rest other o =
       one_stated g.label o.label order other (same_label s g.label octets g.given.left g.is_label.0 rest.left o.label o.taken o.is_label.0) g.is_label.1 o.is_label.1
@@ -162,8 +162,8 @@ module _ (s : SourceSeen) (order : Order) (octets : List ℕ) where
   never_unopened Label g r cause = labelled_cause g r cause
 
 -- A label that must be refused is refused in one way, and nothing is read after it.
-module _ (s : SourceSeen) (label octets : List ℕ) (given : AreGiven s (label ++ octets)) (four : length label ≡ 4) (why : LabelFault) (bad : order_of_label label ≡ Err why) where
-  pub bad_opened : (rest : SourceSeen) (order : Order) → IsAfterLabel s rest order → ⊥
+module _ (s : SourceOver) (label octets : List ℕ) (given : AreGiven s (label ++ octets)) (four : length label ≡ 4) (why : LabelFault) (bad : order_of_label label ≡ Err why) where
+  pub bad_opened : (rest : SourceOver) (order : Order) → IsAfterLabel s rest order → ⊥
   bad_opened rest order o =
       stated_or_bad o.label label order why (sym (same_label s label octets given.left four rest.left o.label o.taken o.is_label.0)) o.is_label.1 bad
 
@@ -192,8 +192,8 @@ module _ (s : SourceSeen) (label octets : List ℕ) (given : AreGiven s (label +
   bad_cause LongScript cause = absurd cause
 
 -- The same of an input that is shorter than a label.
-module _ (s : SourceSeen) (octets : List ℕ) (given : AreGiven s octets) (few : length octets < 4) where
-  pub short_opened : (rest : SourceSeen) (order : Order) → IsAfterLabel s rest order → ⊥
+module _ (s : SourceOver) (octets : List ℕ) (given : AreGiven s octets) (few : length octets < 4) where
+  pub short_opened : (rest : SourceOver) (order : Order) → IsAfterLabel s rest order → ⊥
   short_opened rest order o =
       let many = at_least_four s octets given.left rest.left o.label o.taken o.is_label.0 in omega (arith, few, many)
 

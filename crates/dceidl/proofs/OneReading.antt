@@ -16,7 +16,7 @@ use Rattle.command_refusals.specs.declared.refusal.Refusal.TheVariants.{ShortLab
 use Rattle.command_refusals.specs.declared.refusal.Refusal.TheVariants.{BadPdu, NotCompatible, BadScript, LongScript}
 use Rattle.command_refusals.specs.declared.refusal.OctetsFault.{OctetsFault}
 use Rattle.command_refusals.specs.declared.refusal.OctetsFault.TheVariants as fault
-use Rattle.nd_base.specs.Over.{SourceSeen}
+use Rattle.nd_base.specs.Over.{SourceOver}
 use Rattle.nd_grammar.specs.declared.reason.Reason.{Reason}
 use Rattle.nd_grammar.specs.declared.reason.Reason.TheVariants as reason
 use Rattle.nd_grammar.specs.Refusal.{Bad}
@@ -37,7 +37,7 @@ IsOctetsCause w order octets _ = ⊥
 
 -- ## What was taken, where the octets of the input are known
 
-module _ (s : SourceSeen) (octets : List ℕ) (input : AreGiven s octets) (w : Setting) (order : Order) where
+module _ (s : SourceOver) (octets : List ℕ) (input : AreGiven s octets) (w : Setting) (order : Order) where
   -- octets that were refused are those of the input
   pub refused_here : (place : ℕ) (why : Reason) → IsRefusedInput s w order place why → Bad w order octets place why
   refused_here place why r =
@@ -69,7 +69,7 @@ module _ (s : SourceSeen) (octets : List ℕ) (input : AreGiven s octets) (w : S
       subst P (sym (all ∙ ap (λ u. own ++ u) none ∙ append-nil own)) p
 
 -- the octets of the input are known, and no fetch failed: they are refused as they must be
-pub read_causes : (s : SourceSeen) (w : Setting) (order : Order) (octets : List ℕ) → AreGiven s octets → (P : Refusal → Type 0) → P Memory
+pub read_causes : (s : SourceOver) (w : Setting) (order : Order) (octets : List ℕ) → AreGiven s octets → (P : Refusal → Type 0) → P Memory
     → ((r : Refusal) → IsOctetsCause w order octets r → P r) → (r : Refusal) → IsInputCause s w order r → P r
 read_causes s w order octets input P wanting by Memory cause = wanting
 read_causes s w order octets input P wanting by ReadFault rose = absurd (input.reads rose)

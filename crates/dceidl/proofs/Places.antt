@@ -1,7 +1,7 @@
 -- What a comparison comes to that asks for the first place at which versions differ, as the outcome of its command.
 use Rattle.std.proofs.Common.{◌≡◌, ◌∙◌, ℕ, true, List, [], Option, Some, None, refl, ap, sym, subst, inl, inr}
 use Rattle.std.specs.Prelude.{option_map}
-use Rattle.nd_base.specs.Over.{FilesSeen}
+use Rattle.nd_base.specs.Over.{FilesOver}
 use Rattle.command_compile.specs.Compiled.{FileNames}
 use Rattle.command_compile.specs.Compat.{IsBeside, IsPlaceWritten}
 use Rattle.command_line.specs.Words.{Command, Compat}
@@ -19,7 +19,7 @@ use Rattle.dceidl.specs.Run.{IsCommandOutcome}
 use Rattle.dceidl.specs.Asked.{Seen}
 
 -- a place is beside the refusal of an operation alone
-pub told_at : (f : FilesSeen) (old new : FileNames) (r : Refusal) (text : List ℕ) → IsBeside f old new r (Some text) → (status : ℕ) (line : List ℕ) → status ≡ status_of r
+pub told_at : (f : FilesOver) (old new : FileNames) (r : Refusal) (text : List ℕ) → IsBeside f old new r (Some text) → (status : ℕ) (line : List ℕ) → status ≡ status_of r
     → line ≡ line_of [] [] r → IsComparedOutcome f old new (Reported text status line)
 told_at f old new (NotCompatible (fault.Differs name)) text written status line s l = (name, written, s, l)
 told_at f old new (NotCompatible fault.OtherUuid) text written status line s l = absurd written
@@ -49,7 +49,7 @@ module _ (x : Seen) (old : List ℕ) (old_acf : Option (List ℕ)) (new : List �
   abbrev asked : Command
   asked = Compat old old_acf new new_acf true
 
-  untold : (f : FilesSeen) (a b : FileNames) (r : Refusal) → IsBeside f a b r None → IsUntold (Compat old old_acf new new_acf true) r
+  untold : (f : FilesOver) (a b : FileNames) (r : Refusal) → IsBeside f a b r None → IsUntold (Compat old old_acf new new_acf true) r
   untold f a b (NotCompatible (fault.Differs name)) beside = beside
   untold f a b (NotCompatible fault.OtherUuid) beside = tt
   untold f a b (NotCompatible (fault.OtherMajor m n)) beside = tt

@@ -3,7 +3,7 @@
 use Rattle.std.proofs.Common.{◌≡◌, ◌∙◌, ℕ, ◌≤◌, List, [], ◌∷◌, ◌++◌, Option, Some, None, Result, Ok, Err, IfOk, IfErr, refl, sym, ap, subst, inl, inr, arith}
 use Rattle.std.proofs.lemmas.List.{append_cancel_left}
 use Rattle.nd_base.proofs.Rising.{rose_later}
-use Rattle.nd_base.specs.Over.{Rose, IsContent, IsMissing, FilesSeen, SourceSeen, HasRisen}
+use Rattle.nd_base.specs.Over.{Rose, IsContent, IsMissing, FilesOver, SourceOver, HasRisen}
 use Rattle.nd_types.specs.declared.interface.Interface.{Interface}
 use Rattle.nd_types.specs.declared.types.Operation.{Operation}
 use Rattle.nd_value.specs.declared.value.Graph.{Graph}
@@ -23,7 +23,7 @@ use Rattle.dceidl.specs.Ready.{IsFound, IsReady, HasAsked, up_to}
 use Rattle.command_line.specs.Words.{Subject, Values}
 
 -- files over one part of a run and then over the next
-abbrev pub both_parts : FilesSeen → FilesSeen → FilesSeen
+abbrev pub both_parts : FilesOver → FilesOver → FilesOver
 both_parts f g = record {
   held = f.held;
   asked = f.asked;
@@ -33,7 +33,7 @@ both_parts f g = record {
 }
 
 -- the next part goes on where the first ends
-pub record Follows (f g : FilesSeen) : Type 0 where
+pub record Follows (f g : FilesOver) : Type 0 where
   pub held : g.held ≡ f.held
   pub asked : g.asked ≡ f.asked_now
   pub absences : g.absences.before ≡ f.absences.now
@@ -42,7 +42,7 @@ pub record Follows (f g : FilesSeen) : Type 0 where
   pub absences_later : f.absences.before ≤ f.absences.now
 
 -- a request was loaded, and then something was made of the input beside it
-module _ (f : FilesSeen) (s : SourceSeen) (e : EndsSeen) (name : List ℕ) (task : Task) (w : Setting) (q : Graph) (holds : HoldsRequest f name w q) where
+module _ (f : FilesOver) (s : SourceOver) (e : EndsSeen) (name : List ℕ) (task : Task) (w : Setting) (q : Graph) (holds : HoldsRequest f name w q) where
   pub after_made : (result : Result (List ℕ) Refusal) → IfOk result (IsMadeOf s e task (beside w q)) → IfOk result (IsMadeBeside f s e name task w)
   after_made (Ok made) read = (q, holds, read)
   after_made (Err r) read = tt
@@ -51,7 +51,7 @@ module _ (f : FilesSeen) (s : SourceSeen) (e : EndsSeen) (name : List ℕ) (task
   after_refused (Ok made) cause = tt
   after_refused (Err r) cause = inr (q, holds, cause)
 
-module _ (f g : FilesSeen) (follows : Follows f g) (name : List ℕ) where
+module _ (f g : FilesOver) (follows : Follows f g) (name : List ℕ) where
   -- a request is held over both parts
   pub held_over : (w : Setting) (q : Graph) → HoldsRequest g name w q → HoldsRequest (both_parts f g) name w q
   held_over w q (text, content, is) = (text, subst (λ h. IsContent h name text) follows.held content, is)
@@ -127,7 +127,7 @@ module _ (f g : FilesSeen) (follows : Follows f g) (name : List ℕ) where
       asked = asked ∙ ap (λ u. u ++ name ∷ []) follows.asked;
     }
 
-    module _ (s : SourceSeen) (e : EndsSeen) (task : Task) (w : Setting) (ready : IsReady f of w) where
+    module _ (s : SourceOver) (e : EndsSeen) (task : Task) (w : Setting) (ready : IsReady f of w) where
       pub beside_made : (result : Result (List ℕ) Refusal) → IfOk result (IsMadeBeside g s e name task w)
           → IfOk result (IsMade (seen_over (both_parts f g) s e) (Values task of (Some name)))
       beside_made (Ok made) (q, holds, read) = (

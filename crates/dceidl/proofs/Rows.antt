@@ -1,7 +1,7 @@
 -- The rows of a run follow from the whole of it: each goes by the way in which the run ended.
 use Rattle.std.proofs.Common.{◌≡◌, ◌∙◌, ℕ, List, [], ◌∷◌, Option, Some, None, refl, sym, ap, subst, inl, inr, ◌⊎◌}
 use Rattle.std.specs.Prelude.{◌≢◌, Bool, true, false, codes}
-use Rattle.nd_base.specs.Over.{IsMissing, FilesSeen, SourceSeen, SinkSeen, HasRisen, Got, Rose}
+use Rattle.nd_base.specs.Over.{IsMissing, FilesOver, SourceOver, SinkOver, HasRisen, Got, Rose}
 use Rattle.command_streams.specs.declared.outcome.Outcome.{Outcome}
 use Rattle.command_streams.specs.declared.outcome.Outcome.TheVariants.{Done, Refused, Reported, Wanting}
 use Rattle.command_refusals.specs.declared.refusal.Refusal.{Refusal}
@@ -56,7 +56,7 @@ not_zero (BadScript row) e = cc
 not_zero LongScript e = cc
 
 -- How a run of a command ends: done, refused, out of memory, or with a fault of out or notes in place of its own status.
-pub data Ended (x : Seen) (out notes : SinkSeen) (c : Command) (status : ℕ) : Type 0 where
+pub data Ended (x : Seen) (out notes : SinkOver) (c : Command) (status : ℕ) : Type 0 where
   ended_done : status ≡ 0 → IsDone x out notes c → Ended x out notes c status
   ended_refused : IsRefusedWith x out notes c status → Ended x out notes c status
   ended_unknown : status ≡ 2 → (text : List ℕ) → IsUnexplained c text → Got out text → Got notes (codes "words refused\n") → Ended x out notes c status
@@ -67,7 +67,7 @@ pub data Ended (x : Seen) (out notes : SinkSeen) (c : Command) (status : ℕ) : 
   ended_unwritten : status ≡ 4 → HasRisen out.faults → (made : List ℕ) → IsMade x c made → Ended x out notes c status
   ended_unreported : status ≡ 4 → HasRisen notes.faults → Ended x out notes c status
 
-module _ (x : Seen) (out notes : SinkSeen) (c : Command) (status : ℕ) where
+module _ (x : Seen) (out notes : SinkOver) (c : Command) (status : ℕ) where
   abbrev End : Type 0
   End = Ended x out notes c status
 
@@ -133,11 +133,11 @@ module _ (x : Seen) (out notes : SinkSeen) (c : Command) (status : ℕ) where
   has_cause (ended_unreported is rose) zero one two four five = absurd (four is)
 
 -- words that have an entry run out of memory alone
-memory_of_why : (x : Seen) (out notes : SinkSeen) (words : List (List ℕ)) (status : ℕ) → IsRefusedWith x out notes (Why words) status → status ≡ 5
+memory_of_why : (x : Seen) (out notes : SinkOver) (words : List (List ℕ)) (status : ℕ) → IsRefusedWith x out notes (Why words) status → status ≡ 5
 memory_of_why x out notes words status r = r.own_status ∙ ap status_of r.cause
 
 -- what a command that is refused says
-refused_as : (x : Seen) (out notes : SinkSeen) (c : Command) (status : ℕ) → status ≢ 5 → IsRefusedWith x out notes c status → IsRefused x out notes c status
+refused_as : (x : Seen) (out notes : SinkOver) (c : Command) (status : ℕ) → status ≢ 5 → IsRefusedWith x out notes c status → IsRefused x out notes c status
 refused_as x out notes (Why words) status five r = absurd (five (memory_of_why x out notes words status r))
 refused_as x out notes (Values task of given) status five r = inl r
 refused_as x out notes (Compile idl acf) status five r = inl r
@@ -149,7 +149,7 @@ refused_as x out notes (Sample seed count) status five r = inl r
 refused_as x out notes Help status five r = inl r
 refused_as x out notes Version status five r = inl r
 
-nearest_as : (x : Seen) (out notes : SinkSeen) (c : Command) (status : ℕ) → status ≡ 2 → (text : List ℕ) → IsUnexplained c text → Got out text
+nearest_as : (x : Seen) (out notes : SinkOver) (c : Command) (status : ℕ) → status ≡ 2 → (text : List ℕ) → IsUnexplained c text → Got out text
     → Got notes (codes "words refused\n") → IsRefused x out notes c status
 nearest_as x out notes (Why words) status is text nearest given told =
     record { text = text; unexplained = nearest; own_status = is; line = told; given = given }
@@ -163,7 +163,7 @@ nearest_as x out notes (Sample seed count) status is text nearest given told = a
 nearest_as x out notes Help status is text nearest given told = absurd nearest
 nearest_as x out notes Version status is text nearest given told = absurd nearest
 
-beside_as : (x : Seen) (out notes : SinkSeen) (c : Command) (status : ℕ) → IsRefusedBeside x out notes c status → IsRefused x out notes c status
+beside_as : (x : Seen) (out notes : SinkOver) (c : Command) (status : ℕ) → IsRefusedBeside x out notes c status → IsRefused x out notes c status
 beside_as x out notes (Why words) status t = absurd t.beside
 beside_as x out notes (Values task of given) status t = inr t
 beside_as x out notes (Compile idl acf) status t = inr t
@@ -176,7 +176,7 @@ beside_as x out notes Help status t = inr t
 beside_as x out notes Version status t = inr t
 
 -- any other status than 0, 4 and 5 is a refusal
-pub refused_is : (x : Seen) (out notes : SinkSeen) (c : Command) (status : ℕ) → Ended x out notes c status → status ≢ 0 → status ≢ 4 → status ≢ 5
+pub refused_is : (x : Seen) (out notes : SinkOver) (c : Command) (status : ℕ) → Ended x out notes c status → status ≢ 0 → status ≢ 4 → status ≢ 5
     → IsRefused x out notes c status
 refused_is x out notes c status (ended_done is d) zero four five = absurd (zero is)
 refused_is x out notes c status (ended_refused r) zero four five = refused_as x out notes c status five r
@@ -246,7 +246,7 @@ five_of_values : (t : Bool) (status : ℕ) → status ≡ 5 → IsOneOf (values_
 five_of_values true status e = inr (inr (inr (inr (inl e))))
 five_of_values false status e = inr (inr (inr (inr (inl e))))
 
-of_files : (f : FilesSeen) (idl : List ℕ) (acf : Option (List ℕ)) (status : ℕ) (r : Refusal) → IsIdlCause f idl acf r → status ≡ status_of r → OfFiles status
+of_files : (f : FilesOver) (idl : List ℕ) (acf : Option (List ℕ)) (status : ℕ) (r : Refusal) → IsIdlCause f idl acf r → status ≡ status_of r → OfFiles status
 of_files f idl acf status Memory cause e = inr (inr (inl e))
 of_files f idl acf status (Absent file) cause e = inr (inr (inr (inr (inl e))))
 of_files f idl acf status (FileFailed file) cause e = inr (inr (inr (inr (inr (inl e)))))
@@ -359,7 +359,7 @@ two_in (Sample seed count) text nearest status e = absurd nearest
 two_in Help text nearest status e = absurd nearest
 two_in Version text nearest status e = absurd nearest
 
-pub status_in : (x : Seen) (out notes : SinkSeen) (c : Command) (status : ℕ) → Ended x out notes c status → IsOneOf (statuses_of c) status
+pub status_in : (x : Seen) (out notes : SinkOver) (c : Command) (status : ℕ) → Ended x out notes c status → IsOneOf (statuses_of c) status
 status_in x out notes c status (ended_done is d) = zero_in c status is
 status_in x out notes c status (ended_refused r) = refused_status x c status r.refusal r.cause r.own_status
 status_in x out notes c status (ended_unknown is text nearest given told) = two_in c text nearest status is
@@ -378,7 +378,7 @@ pub data Idle (status : ℕ) : Type 0 where
   idle_four : status ≡ 4 → Idle status
   idle_five : status ≡ 5 → Idle status
 
-pub idle : (x : Seen) (out notes : SinkSeen) (status : ℕ) (words : List (List ℕ)) → command words ≡ None → HasRun words x out notes status → Idle status
+pub idle : (x : Seen) (out notes : SinkOver) (status : ℕ) (words : List (List ℕ)) → command words ≡ None → HasRun words x out notes status → Idle status
 idle x out notes status words is run = by run.outcome (subst (λ o. IsOutcome x o run.outcome) is run.caused) run.delivered
   where
     by : (outcome : Outcome) → IsOutcome x None outcome → IsDelivered out notes outcome status → Idle status
@@ -395,7 +395,7 @@ idle x out notes status words is run = by run.outcome (subst (λ o. IsOutcome x 
 -- ## What a status says
 
 -- a status of a refusal is that of a command
-pub record OfRefusal (x : Seen) (notes : SinkSeen) (words : List (List ℕ)) (status : ℕ) : Type 0 where
+pub record OfRefusal (x : Seen) (notes : SinkOver) (words : List (List ℕ)) (status : ℕ) : Type 0 where
   pub command_is : Command
   pub is : command words ≡ Some command_is
   pub refusal : Refusal
@@ -406,7 +406,7 @@ pub record OfRefusal (x : Seen) (notes : SinkSeen) (words : List (List ℕ)) (st
 abbrev IsOther : ℕ → Type 0
 IsOther n = (n ≡ 0 → ⊥) × (n ≡ 1 → ⊥) × (n ≡ 2 → ⊥) × (n ≡ 4 → ⊥) × (n ≡ 5 → ⊥)
 
-pub of_refusal : (x : Seen) (out notes : SinkSeen) (status : ℕ) (words : List (List ℕ)) → HasRun words x out notes status → (n : ℕ) → status ≡ n → IsOther n
+pub of_refusal : (x : Seen) (out notes : SinkOver) (status : ℕ) (words : List (List ℕ)) → HasRun words x out notes status → (n : ℕ) → status ≡ n → IsOther n
     → OfRefusal x notes words status
 of_refusal x out notes status words run n e (zero, one, two, four, five) = by (command words) refl
   where
@@ -446,12 +446,12 @@ module _ (x : Seen) where
   idl_read idl acf (BadScript row) cause e = cc
   idl_read idl acf LongScript cause e = cc
 
-  opened_failed : (s rest : SourceSeen) (word : OrderWord) (order : Order) → IsOpened word s rest order → HasRisen rest.faults → HasRisen s.faults
+  opened_failed : (s rest : SourceOver) (word : OrderWord) (order : Order) → IsOpened word s rest order → HasRisen rest.faults → HasRisen s.faults
   opened_failed s rest (Fixed named) order (same, is) rose = subst (λ r. HasRisen r.faults) same rose
   opened_failed s rest Label order o rose =
       rose_later s.faults.before rest.faults.before s.faults.now o.later (subst (λ k. Rose rest.faults.before k) o.faults rose)
 
-  octets_failed : (s : SourceSeen) (ends : EndsSeen) (how : Reading) (word : OrderWord) (w : Setting) → IsTaskCause s ends (Read how word) w ReadFault → HasRisen s.faults
+  octets_failed : (s : SourceOver) (ends : EndsSeen) (how : Reading) (word : OrderWord) (w : Setting) → IsTaskCause s ends (Read how word) w ReadFault → HasRisen s.faults
   octets_failed s ends how (Fixed named) w (inl (cause, kept)) = absurd cause
   octets_failed s ends how Label w (inl (rose, kept)) = rose
   octets_failed s ends Decode word w (inr (rest, order, opened, rose)) = opened_failed s rest word order opened rose
@@ -793,7 +793,7 @@ module _ (x : Seen) where
   failed_is Help r cause e = let never : status_of Memory ≡ 9 = sym (ap status_of cause) ∙ e in cc
   failed_is Version r cause e = let never : status_of Memory ≡ 9 = sym (ap status_of cause) ∙ e in cc
 
-  module _ (out notes : SinkSeen) (status : ℕ) (words : List (List ℕ)) (run : HasRun words x out notes status) where
+  module _ (out notes : SinkOver) (status : ℕ) (words : List (List ℕ)) (run : HasRun words x out notes status) where
     pub read : status ≡ 3 → HasRisen x.input.faults × ReadsInput (command words)
     read e =
         let r = of_refusal x out notes status words run 3 e ((λ h. cc), (λ h. cc), (λ h. cc), (λ h. cc), (λ h. cc)) in
@@ -877,7 +877,7 @@ module _ (x : Seen) where
   ended_by c ShortLabel cause e = absurd (one_is_no_eight e)
   ended_by c (TooFewEnds wanted found) cause e = absurd (one_is_no_eight e)
 
-  pub end : (out notes : SinkSeen) (status : ℕ) (words : List (List ℕ)) → HasRun words x out notes status → status ≡ 8 → IsEndReported x.ends notes
+  pub end : (out notes : SinkOver) (status : ℕ) (words : List (List ℕ)) → HasRun words x out notes status → status ≡ 8 → IsEndReported x.ends notes
   end out notes status words run e =
       let r = of_refusal x out notes status words run 8 e ((λ h. cc), (λ h. cc), (λ h. cc), (λ h. cc), (λ h. cc)) in
       let (which, same, rose) = ended_by r.command_is r.refusal r.cause (r.own ∙ e) in
@@ -888,7 +888,7 @@ module _ (x : Seen) where
 abbrev Unfailed : ℕ → Type 0
 Unfailed status = IsOneOf (0 ∷ 1 ∷ 2 ∷ 5 ∷ 6 ∷ []) status
 
-module _ (x : Seen) (out notes : SinkSeen) (status : ℕ) (nothing : HasNotFailed x out notes) where
+module _ (x : Seen) (out notes : SinkOver) (status : ℕ) (nothing : HasNotFailed x out notes) where
   refused_unfailed : (c : Command) (r : Refusal) → IsCause x c r → status ≡ status_of r → Unfailed status
   refused_unfailed c Memory cause e = inr (inr (inr (inl e)))
   refused_unfailed c (Absent file) cause e = absurd (nothing.found (absent_is x c (Absent file) cause refl).0)
@@ -986,7 +986,7 @@ not_four LongScript e = cc
 apart : (n a b : ℕ) → n ≡ a → n ≡ b → (a ≡ b → ⊥) → ⊥
 apart n a b x y unlike = unlike (sym x ∙ y)
 
-module _ (x : Seen) (out notes : SinkSeen) (status : ℕ) (words : List (List ℕ)) (run : HasRun words x out notes status) where
+module _ (x : Seen) (out notes : SinkOver) (status : ℕ) (words : List (List ℕ)) (run : HasRun words x out notes status) where
   -- status 2 comes only for words that are no command, and for words of `why` that have no entry
   pub no_command : status ≡ 2 → AreUnknown (command words)
   no_command e = by (command words) refl

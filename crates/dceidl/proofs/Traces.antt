@@ -1,7 +1,7 @@
 -- What the steps of `trace` answer, one after the other.
 use Rattle.std.proofs.Common.{◌≡◌, ◌∙◌, ℕ, ◌≤◌, Bool, List, Option, Some, None, Result, Ok, Err, IfOk, IfErr, refl, ap, sym, subst, inl, inr}
 use Rattle.nd_base.specs.declared.octets.Order.{Order}
-use Rattle.nd_base.specs.Over.{FilesSeen, IsUntouched, SourceSeen}
+use Rattle.nd_base.specs.Over.{FilesOver, IsUntouched, SourceOver}
 use Rattle.nd_value.specs.Setting.{Setting}
 use Rattle.ndr_pipe.specs.Ends.{AreAsBefore, EndsSeen}
 use Rattle.command_decode.specs.Decoded.{IsExplained, AreLines, IsBeside, IsOther, IsStopped}
@@ -29,7 +29,7 @@ use Rattle.dceidl.proofs.Labels.{over}
 
 -- ## The octets, after their label
 
-module _ (s rest : SourceSeen) (word : OrderWord) (order : Order) (w : Setting) (opened : IsOpened word s rest order) where
+module _ (s rest : SourceOver) (word : OrderWord) (order : Order) (w : Setting) (opened : IsOpened word s rest order) where
   opened_lines : (r : Refusal) (lines : Option (List ℕ)) → IsBeside rest w order r lines → AreTaskLines s word w r lines
   opened_lines r (Some text) h = (rest, order, opened, h)
   opened_lines r None h = h
@@ -44,7 +44,7 @@ module _ (s rest : SourceSeen) (word : OrderWord) (order : Order) (w : Setting) 
   opened_stopped (Err r) h = record { cause = λ e kept. inr (rest, order, opened, h.cause); lines = opened_lines r.refusal r.lines h.beside }
 
 -- a label is refused beside no lines
-label_other : (s : SourceSeen) (r : Refusal) → IsLabelCause s r → IsOther r
+label_other : (s : SourceOver) (r : Refusal) → IsLabelCause s r → IsOther r
 label_other s Memory cause = tt
 label_other s (Absent file) cause = tt
 label_other s (FileFailed file) cause = tt
@@ -65,7 +65,7 @@ label_other s (NotCompatible differing) cause = tt
 label_other s (BadScript row) cause = tt
 label_other s LongScript cause = tt
 
-pub unlabelled : (s : SourceSeen) (w : Setting) (r : Refusal) → IsLabelCause s r → IsStoppedTask s Label w (record { refusal = r; lines = None })
+pub unlabelled : (s : SourceOver) (w : Setting) (r : Refusal) → IsLabelCause s r → IsStoppedTask s Label w (record { refusal = r; lines = None })
 unlabelled s w r cause = record { cause = λ e kept. inl (cause, kept); lines = label_other s r cause }
 
 -- ## A command
@@ -105,7 +105,7 @@ module _ (x : Seen) (word : OrderWord) (of : Subject) (given : Option (List ℕ)
   ready_made w ready made m = (w, ready, m)
 
 -- once all is ready
-module _ (f : FilesSeen) (s : SourceSeen) (word : OrderWord) (of : Subject) (given : Option (List ℕ)) (w : Setting) (ready : IsAllReady f of given w) where
+module _ (f : FilesOver) (s : SourceOver) (word : OrderWord) (of : Subject) (given : Option (List ℕ)) (w : Setting) (ready : IsAllReady f of given w) where
   pub prepared_made : (answer : Result (List ℕ) Stopped) → IfOk answer (λ made. (e : EndsSeen) → IsMadeOf s e (Read Trace word) w made)
       → IfOk answer (λ made. (e : EndsSeen) → IsMade (seen_over f s e) (Values (Read Trace word) of given) made)
   prepared_made (Ok made) h = λ e. ready_made (seen_over f s e) word of given w ready made (h e)
@@ -117,7 +117,7 @@ module _ (f : FilesSeen) (s : SourceSeen) (word : OrderWord) (of : Subject) (giv
   prepared_stopped (Err r) h = λ e kept. ready_stopped (seen_over f s e) word of given w ready kept r h
 
 -- what is not ready is refused beside no lines
-ready_other : (f : FilesSeen) (of : Subject) (r : Refusal) → IsReadyCause f of r → IsOther r
+ready_other : (f : FilesOver) (of : Subject) (r : Refusal) → IsReadyCause f of r → IsOther r
 ready_other f of Memory cause = tt
 ready_other f of (Absent file) cause = tt
 ready_other f of (FileFailed file) cause = tt
@@ -138,7 +138,7 @@ ready_other f of (NotCompatible differing) cause = tt
 ready_other f of (BadScript row) cause = tt
 ready_other f of LongScript cause = tt
 
-request_other : (f : FilesSeen) (name : List ℕ) (w : Setting) (r : Refusal) → HoldsNoRequest f name w r → IsOther r
+request_other : (f : FilesOver) (name : List ℕ) (w : Setting) (r : Refusal) → HoldsNoRequest f name w r → IsOther r
 request_other f name w Memory cause = tt
 request_other f name w (Absent file) cause = tt
 request_other f name w (FileFailed file) cause = tt
@@ -159,7 +159,7 @@ request_other f name w (NotCompatible differing) cause = tt
 request_other f name w (BadScript row) cause = tt
 request_other f name w LongScript cause = tt
 
-unready_other : (f : FilesSeen) (of : Subject) (given : Option (List ℕ)) (r : Refusal) → IsUnready f of given r → IsOther r
+unready_other : (f : FilesOver) (of : Subject) (given : Option (List ℕ)) (r : Refusal) → IsUnready f of given r → IsOther r
 unready_other f of None r cause = ready_other f of r cause
 unready_other f of (Some name) r (inl cause) = ready_other f of r cause
 unready_other f of (Some name) r (inr u) = request_other f name u.own r u.cause

@@ -4,7 +4,7 @@ use Rattle.std.proofs.lemmas.List.{append-nil, append_assoc, length-append}
 use Rattle.std.specs.Io.KnownBytes.{IsAtEnd}
 use Rattle.nd_base.specs.declared.octets.Order.{Order}
 use Rattle.nd_base.specs.declared.TheConstants.{STREAM_LIMIT}
-use Rattle.nd_base.specs.Over.{SourceSeen}
+use Rattle.nd_base.specs.Over.{SourceOver}
 use Rattle.nd_lemmas.proofs.Lists.{take_front}
 use Rattle.nd_value.specs.Setting.{Setting}
 use Rattle.nd_grammar.specs.declared.reason.Reason.{Reason}
@@ -26,7 +26,7 @@ use Rattle.command_decode.proofs.Limits.{truncated_within}
 use Rattle.dceidl.specs.Rows.{IsRefusedAt, IsTrailing}
 use Rattle.dceidl.proofs.OneReading.{IsOctetsCause}
 
-module _ (s : SourceSeen) (octets : List ℕ) (input : AreGiven s octets) (w : Setting) (order : Order) where
+module _ (s : SourceOver) (octets : List ℕ) (input : AreGiven s octets) (w : Setting) (order : Order) where
   module _ (own : List ℕ) (read : AreRead s STREAM_LIMIT own) where
     abbrev Rest : Type 0
     Rest = (rest : List ℕ) × (octets ≡ own ++ rest) × (length own < STREAM_LIMIT + 1 → rest ≡ [])

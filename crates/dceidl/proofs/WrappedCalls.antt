@@ -4,7 +4,7 @@ use Rattle.std.specs.List.{slice_get}
 use Rattle.std.proofs.lemmas.Option.{slice_get_within, same_Some}
 use Rattle.nd_base.specs.declared.TheConstants.{STREAM_LIMIT}
 use Rattle.nd_base.specs.declared.octets.Order.{Order}
-use Rattle.nd_base.specs.Over.{FilesSeen, SourceSeen}
+use Rattle.nd_base.specs.Over.{FilesOver, SourceOver}
 use Rattle.nd_types.specs.declared.interface.Interface.{Interface}
 use Rattle.nd_types.specs.declared.types.Operation.{Operation}
 use Rattle.nd_types.specs.declared.types.Side.{Side}
@@ -52,7 +52,7 @@ call_of pieces i n o Out order call max stub made there few id least most short 
   known = there;
 }
 
-pub wrapped_call : PiecesAreFragments → (f : FilesSeen) (s : SourceSeen) (of : Subject) (order : Order) (call max : ℕ) (made : List ℕ)
+pub wrapped_call : PiecesAreFragments → (f : FilesOver) (s : SourceOver) (of : Subject) (order : Order) (call max : ℕ) (made : List ℕ)
     → call < 2 ^ 32 → 1024 ≤ max → max < 2 ^ 16 → (h : IsWrapped f s of order call max made)
     → IsCall h.interface (stated_for of.side h.number) made order call h.operation h.stub
 wrapped_call pieces f s of order call max made id least most h =
@@ -86,8 +86,8 @@ module _ (i : Interface) (number : Option ℕ) (octets : List ℕ) where
         stub_same = same.stub_same;
       }
 
-pub wrapped_text : PiecesAreFragments → HaveOneText → (f : FilesSeen) (s : SourceSeen) (of : Subject) (order : Order) (call max : ℕ) (made : List ℕ)
-    → call < 2 ^ 32 → 1024 ≤ max → max < 2 ^ 16 → (h : IsWrapped f s of order call max made) → (t : SourceSeen) → AreGiven t made → (printed other : List ℕ)
+pub wrapped_text : PiecesAreFragments → HaveOneText → (f : FilesOver) (s : SourceOver) (of : Subject) (order : Order) (call max : ℕ) (made : List ℕ)
+    → call < 2 ^ 32 → 1024 ≤ max → max < 2 ^ 16 → (h : IsWrapped f s of order call max made) → (t : SourceOver) → AreGiven t made → (printed other : List ℕ)
     → IsCalled t h.interface (stated_for of.side h.number) printed → IsMigration (setting_of h.interface h.operation of.side) h.encoded.0 other
     → printed ≡ call_line call ++ other
 wrapped_text pieces texts f s of order call max made id least most h t given printed other d m =

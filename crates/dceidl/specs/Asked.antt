@@ -1,6 +1,6 @@
 -- What a run reads from and gives to, and what it may ask for.
 use Rattle.std.specs.Prelude.{◌≡◌, ◌⊎◌, ℕ, Bool, true, false, List, [], ◌∷◌, ◌++◌, Option, Some, None, ⊤}
-use Rattle.nd_base.specs.Over.{FilesSeen, SourceSeen, IsContent, AreUntouched, IsUntouched}
+use Rattle.nd_base.specs.Over.{FilesOver, SourceOver, IsContent, AreUntouched, IsUntouched}
 use Rattle.nd_types.specs.declared.interface.Interface.{Interface}
 use Rattle.nd_types.specs.Roots.{operation_named}
 use Rattle.ndr_pipe.specs.Ends.{EndsSeen, AreAsBefore}
@@ -16,11 +16,11 @@ use Rattle.command_compile.specs.Compat.{AsksBoth}
 
 -- files, input and ends over a run
 pub record Seen : Type 0 where
-  pub files : FilesSeen
-  pub input : SourceSeen
+  pub files : FilesOver
+  pub input : SourceOver
   pub ends : EndsSeen
 
-abbrev pub seen_over : FilesSeen → SourceSeen → EndsSeen → Seen
+abbrev pub seen_over : FilesOver → SourceOver → EndsSeen → Seen
 seen_over f s e = record { files = f; input = s; ends = e }
 
 -- ## What a run may ask for
@@ -71,7 +71,7 @@ pub record IsRequestDue (held : Option (List ℕ → Option (List ℕ))) (of : S
   pub known : operation_named interface.operations of.op ≡ Some number
 
 -- The text of a request is asked for when it is due: all files that the interface is of were asked for before it.
-pub record AsksRequest (f : FilesSeen) (of : Subject) (name : List ℕ) : Type 0 where
+pub record AsksRequest (f : FilesOver) (of : Subject) (name : List ℕ) : Type 0 where
   pub due : IsRequestDue f.held of
   pub earlier : List (List ℕ)
   pub earlier_are : earlier ≡ all_due due.means.state.sources of.acf
@@ -79,13 +79,13 @@ pub record AsksRequest (f : FilesSeen) (of : Subject) (name : List ℕ) : Type 0
   pub asked : f.asked_now ≡ (f.asked ++ earlier) ++ name ∷ []
 
 -- the files that a command asks for: those of the interface, and after them the text of a request or the files of a second interface
-abbrev pub AsksFilesOf : FilesSeen → Command → Type 0
+abbrev pub AsksFilesOf : FilesOver → Command → Type 0
 AsksFilesOf f (Values task of (Some name)) = AsksFiles f (Some (record { idl = of.idl; acf = of.acf })) ⊎ AsksRequest f of name
 AsksFilesOf f (Compat old old_acf new new_acf why) = AsksBoth f (record { idl = old; acf = old_acf }) (record { idl = new; acf = new_acf })
 AsksFilesOf f c = AsksFiles f (asks_files c)
 
 -- the input is left as it is if a command does not read it
-abbrev pub AsksInput : SourceSeen → Bool → Type 0
+abbrev pub AsksInput : SourceOver → Bool → Type 0
 AsksInput s true = ⊤
 AsksInput s false = IsUntouched s
 

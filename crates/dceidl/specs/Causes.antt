@@ -1,7 +1,7 @@
 -- What each command makes, and why it is refused: a line for each command in each of these tables.
 use Rattle.std.specs.Prelude.{◌≡◌, ◌⊎◌, ℕ, Bool, true, false, List, [], ◌∷◌, Option, ⊤}
 use Rattle.nd_base.specs.declared.octets.Order.{Order}
-use Rattle.nd_base.specs.Over.{SourceSeen, IsUntouched}
+use Rattle.nd_base.specs.Over.{SourceOver, IsUntouched}
 use Rattle.nd_value.specs.Setting.{Setting}
 use Rattle.ndr_pipe.specs.Ends.{AreAsBefore}
 use Rattle.dceidl.specs.Asked.{drains, Seen}
@@ -60,7 +60,7 @@ IsUnexplained _ text = ⊥
 -- Where octets are refused, `trace` writes to out the lines of the items before the fault, and the fault.
 abbrev pub AreTraced : Seen → Task → Subject → Option (List ℕ) → Refusal → List ℕ → Type 0
 AreTraced x (Read Trace word) of given r text =
-    (w : Setting) × IsAllReady x.files of given w × (rest : SourceSeen) × (order : Order) × IsOpened word x.input rest order
+    (w : Setting) × IsAllReady x.files of given w × (rest : SourceOver) × (order : Order) × IsOpened word x.input rest order
     × AreLines rest w order r text
 AreTraced x _ of given r text = ⊥
 

@@ -1,6 +1,6 @@
 -- Files that are held, what they mean, and what must come of two versions of an interface that are held.
 use Rattle.std.specs.Prelude.{◌≡◌, ◌⊎◌, ℕ, false, List, [], Option, Some, None, option_map, ⊤}
-use Rattle.nd_base.specs.Over.{loaded, FilesSeen, IsContent}
+use Rattle.nd_base.specs.Over.{loaded, FilesOver, IsContent}
 use Rattle.nd_types.specs.declared.interface.Interface.{Interface}
 use Rattle.idl_compat.specs.declared.pairs.TypePair.{TypePair}
 use Rattle.idl_compat.specs.declared.compared.Compared.TheVariants.{Yes}
@@ -19,17 +19,17 @@ use Rattle.command_compile.specs.Compat.{IsDifferent, IsCompatible, IsCompatCaus
 -- ## Files that are held, and what they mean
 
 -- the contents of files are known, and under this name this content is held, as far as a load gives it
-abbrev pub IsHeld : FilesSeen → List ℕ → List ℕ → Type 0
+abbrev pub IsHeld : FilesOver → List ℕ → List ℕ → Type 0
 IsHeld f name file = (held : List ℕ → Option (List ℕ)) × (f.held ≡ Some held) × (option_map loaded (held name) ≡ Some file)
 
 -- The main file is held, and the files mean this interface.
-pub record IsHeldInterface (f : FilesSeen) (named : FileNames) (i : Interface) : Type 0 where
+pub record IsHeldInterface (f : FilesOver) (named : FileNames) (i : Interface) : Type 0 where
   pub file : List ℕ
   pub held : IsHeld f named.idl file
   pub means : Means f.held named.idl file named.acf i
 
 -- the main file is held, and the files are refused in this way
-abbrev pub MustBeNoIdl : FilesSeen → List ℕ → Option (List ℕ) → Refusal → Type 0
+abbrev pub MustBeNoIdl : FilesOver → List ℕ → Option (List ℕ) → Refusal → Type 0
 MustBeNoIdl f idl acf (BadIdl file line column why) =
     (text : List ℕ) × IsHeld f idl text × IsIdlFault f.held idl text acf (BadIdl file line column why)
 MustBeNoIdl f idl acf _ = ⊥
@@ -39,7 +39,7 @@ MustBeNoIdl f idl acf _ = ⊥
 -- No load fails. `f` are files over a run, `old` and `new` the names of the files of the versions, `i` and `j` the interfaces.
 
 -- The files of both are held and mean interfaces, and the second has all operations of the first.
-pub record CanBeCompared (f : FilesSeen) (old new : FileNames) : Type 0 where
+pub record CanBeCompared (f : FilesOver) (old new : FileNames) : Type 0 where
   pub older : Interface
   pub newer : Interface
   pub first : IsHeldInterface f old older
@@ -48,13 +48,13 @@ pub record CanBeCompared (f : FilesSeen) (old new : FileNames) : Type 0 where
   pub compared : IsCompared older newer (Yes pairs)
 
 -- The files of both are held and mean interfaces.
-pub record AreHeld (f : FilesSeen) (old new : FileNames) (i j : Interface) : Type 0 where
+pub record AreHeld (f : FilesOver) (old new : FileNames) (i j : Interface) : Type 0 where
   pub first : IsHeldInterface f old i
   pub second : IsHeldInterface f new j
 
 -- The files of the first are refused; or they mean an interface, and those of the second are refused; or both mean interfaces, and their comparison
 -- answers this reason.
-abbrev pub MustBeIncomparable : FilesSeen → FileNames → FileNames → Refusal → Type 0
+abbrev pub MustBeIncomparable : FilesOver → FileNames → FileNames → Refusal → Type 0
 MustBeIncomparable f old new (BadIdl file line column why) =
     MustBeNoIdl f old.idl old.acf (BadIdl file line column why)
     ⊎ ((i : Interface) × IsHeldInterface f old i × MustBeNoIdl f new.idl new.acf (BadIdl file line column why))
@@ -73,7 +73,7 @@ HasNoPlace c = ⊤
 
 -- What the comparison of two versions comes to, if the first place at which they differ is asked for: it is written exactly where an operation
 -- differs.
-abbrev pub IsComparedOutcome : FilesSeen → FileNames → FileNames → Outcome → Type 0
+abbrev pub IsComparedOutcome : FilesOver → FileNames → FileNames → Outcome → Type 0
 IsComparedOutcome f old new (Done made) = IsCompatible f old new made
 IsComparedOutcome f old new (Refused status line) =
     (r : Refusal) × IsCompatCause f old new r × IsBeside f old new r None × (status ≡ status_of r) × (line ≡ line_of [] [] r)

@@ -2,7 +2,7 @@
 use Rattle.std.specs.Prelude.{◌≡◌, ◌⊎◌, ℕ, ◌+◌, ◌<◌, ◌≤◌, true, List, [], ◌∷◌, ◌++◌, length, Option, Some, None, Ok, ⊤}
 use Rattle.std.specs.Io.KnownBytes.{Consumes, IsAtEnd}
 use Rattle.nd_base.specs.declared.octets.Order.{Order}
-use Rattle.nd_base.specs.Over.{FilesSeen, SourceSeen, HasRisen, IsUntouched}
+use Rattle.nd_base.specs.Over.{FilesOver, SourceOver, HasRisen, IsUntouched}
 use Rattle.nd_types.specs.declared.interface.Interface.{Interface}
 use Rattle.nd_types.specs.declared.types.Operation.{Operation}
 use Rattle.nd_types.specs.declared.types.Side.{Side}
@@ -78,17 +78,17 @@ pub record IsMigration (w : Setting) (text made : List ℕ) : Type 0 where
 -- ## What is made of the input, and why it is refused
 
 -- the text of the input was read to its end or to one octet past its limit, and this holds of it
-abbrev pub OfText : SourceSeen → (List ℕ → Type 0) → Type 0
+abbrev pub OfText : SourceOver → (List ℕ → Type 0) → Type 0
 OfText s P = (text : List ℕ) × AreRead s TEXT_LIMIT text × P text
 
 -- why the text of the input is refused; running out of memory needs no cause
-abbrev pub IsInputTextCause : SourceSeen → Setting → Refusal → Type 0
+abbrev pub IsInputTextCause : SourceOver → Setting → Refusal → Type 0
 IsInputTextCause s w ReadFault = HasRisen s.faults
 IsInputTextCause s w Memory = ⊤
 IsInputTextCause s w refusal = OfText s (λ text. IsTextCause w text refusal)
 
 -- the same of a text that is encoded
-abbrev pub IsInputEncodingCause : SourceSeen → Setting → ℕ → Refusal → Type 0
+abbrev pub IsInputEncodingCause : SourceOver → Setting → ℕ → Refusal → Type 0
 IsInputEncodingCause s w chunk (TooLong length) = OfText s (λ text. IsLongEncoding w chunk text length)
 IsInputEncodingCause s w chunk refusal = IsInputTextCause s w refusal
 
@@ -100,7 +100,7 @@ IsLabel (Fixed named) label order = (label ≡ []) × (order ≡ named)
 IsLabel Label label order = (length label ≡ 4) × (order_of_label label ≡ Ok order)
 
 -- A label was taken first, and this is the source after it.
-pub record IsAfterLabel (s rest : SourceSeen) (order : Order) : Type 0 where
+pub record IsAfterLabel (s rest : SourceOver) (order : Order) : Type 0 where
   pub label : List ℕ
   pub taken : Consumes s.left rest.left label
   pub is_label : IsLabel Label label order
@@ -110,24 +110,24 @@ pub record IsAfterLabel (s rest : SourceSeen) (order : Order) : Type 0 where
   pub later : s.faults.before ≤ rest.faults.before
 
 -- what is read in this order is all of the source, or what follows its label
-abbrev pub IsOpened : OrderWord → SourceSeen → SourceSeen → Order → Type 0
+abbrev pub IsOpened : OrderWord → SourceOver → SourceOver → Order → Type 0
 IsOpened (Fixed named) s rest order = (rest ≡ s) × (order ≡ named)
 IsOpened Label s rest order = IsAfterLabel s rest order
 
 -- why it is not: the label is refused
-abbrev pub IsUnopened : OrderWord → SourceSeen → Refusal → Type 0
+abbrev pub IsUnopened : OrderWord → SourceOver → Refusal → Type 0
 IsUnopened (Fixed named) s r = ⊥
 IsUnopened Label s r = IsLabelCause s r
 
 -- this is made of the octets of values, by the way of reading
-abbrev pub IsMadeReading : Reading → SourceSeen → EndsSeen → Setting → Order → List ℕ → Type 0
+abbrev pub IsMadeReading : Reading → SourceOver → EndsSeen → Setting → Order → List ℕ → Type 0
 IsMadeReading Decode s e w order made = IsPrinted s w order made
 IsMadeReading Explain s e w order made = IsExplained s w order made
 IsMadeReading Trace s e w order made = IsExplained s w order made
 IsMadeReading Drain s e w order made = draining.IsPrinted s e w order made
 
 -- why these octets are refused
-abbrev pub IsReadingCause : Reading → SourceSeen → EndsSeen → Setting → Order → Refusal → Type 0
+abbrev pub IsReadingCause : Reading → SourceOver → EndsSeen → Setting → Order → Refusal → Type 0
 IsReadingCause Decode s e w order r = IsInputCause s w order r
 IsReadingCause Explain s e w order r = IsInputCause s w order r
 IsReadingCause Trace s e w order r = IsTraceCause s w order r
@@ -136,24 +136,24 @@ IsReadingCause Drain s e w order r = draining.IsDrainRefusal s e w order r
 -- ### The input, by what is done
 
 -- this is made of the input
-abbrev pub IsMadeOf : SourceSeen → EndsSeen → Task → Setting → List ℕ → Type 0
-IsMadeOf s e (Read how word) w made = (rest : SourceSeen) × (order : Order) × IsOpened word s rest order × IsMadeReading how rest e w order made
+abbrev pub IsMadeOf : SourceOver → EndsSeen → Task → Setting → List ℕ → Type 0
+IsMadeOf s e (Read how word) w made = (rest : SourceOver) × (order : Order) × IsOpened word s rest order × IsMadeReading how rest e w order made
 IsMadeOf s e (Encode word chunk) w made = OfText s (λ text. IsLabelledEncoding w word chunk text made)
 IsMadeOf s e Migrate w made = OfText s (λ text. IsMigration w text made)
 
 -- why the input is refused
-abbrev pub IsTaskCause : SourceSeen → EndsSeen → Task → Setting → Refusal → Type 0
+abbrev pub IsTaskCause : SourceOver → EndsSeen → Task → Setting → Refusal → Type 0
 IsTaskCause s e (Read how word) w r =
-    (IsUnopened word s r × AreAsBefore e) ⊎ ((rest : SourceSeen) × (order : Order) × IsOpened word s rest order × IsReadingCause how rest e w order r)
+    (IsUnopened word s r × AreAsBefore e) ⊎ ((rest : SourceOver) × (order : Order) × IsOpened word s rest order × IsReadingCause how rest e w order r)
 IsTaskCause s e (Encode word chunk) w r = IsInputEncodingCause s w chunk r
 IsTaskCause s e Migrate w r = IsInputTextCause s w r
 
 -- the file of a name holds a request, and beside it this is made of the input
-abbrev pub IsMadeBeside : FilesSeen → SourceSeen → EndsSeen → List ℕ → Task → Setting → List ℕ → Type 0
+abbrev pub IsMadeBeside : FilesOver → SourceOver → EndsSeen → List ℕ → Task → Setting → List ℕ → Type 0
 IsMadeBeside f s e name task w made = (q : Graph) × HoldsRequest f name w q × IsMadeOf s e task (beside w q) made
 
 -- why it is not: the request is refused before the input is touched, or the input is
-abbrev pub IsBesideCause : FilesSeen → SourceSeen → EndsSeen → List ℕ → Task → Setting → Refusal → Type 0
+abbrev pub IsBesideCause : FilesOver → SourceOver → EndsSeen → List ℕ → Task → Setting → Refusal → Type 0
 IsBesideCause f s e name task w r =
     (HoldsNoRequest f name w r × IsUntouched s × AreAsBefore e) ⊎ ((q : Graph) × HoldsRequest f name w q × IsTaskCause s e task (beside w q) r)
 
@@ -164,11 +164,11 @@ IsBesideCause f s e name task w r =
 -- ### `call`
 
 -- the files mean an interface, and the input is printed as a call
-abbrev pub HasCalled : FilesSeen → SourceSeen → List ℕ → Option (List ℕ) → Option (List ℕ) → List ℕ → Type 0
+abbrev pub HasCalled : FilesOver → SourceOver → List ℕ → Option (List ℕ) → Option (List ℕ) → List ℕ → Type 0
 HasCalled f s idl acf op made = (i : Interface) × (number : Option ℕ) × IsCallReady f idl acf op i number × IsCalled s i number made
 
 -- why it is not: the files are refused before the input is touched, or the input is
-abbrev pub IsNoCall : FilesSeen → SourceSeen → List ℕ → Option (List ℕ) → Option (List ℕ) → Refusal → Type 0
+abbrev pub IsNoCall : FilesOver → SourceOver → List ℕ → Option (List ℕ) → Option (List ℕ) → Refusal → Type 0
 IsNoCall f s idl acf op r =
     (IsCallUnready f idl acf op r × IsUntouched s)
     ⊎ ((i : Interface) × (number : Option ℕ) × IsCallReady f idl acf op i number × IsCallCause s i number r)
@@ -190,7 +190,7 @@ stated_for In n = None
 stated_for Out n = Some n
 
 -- The octets of the values of the text are the stub data of the fragments that are written.
-pub record IsWrapped (f : FilesSeen) (s : SourceSeen) (of : Subject) (order : Order) (call max : ℕ) (made : List ℕ) : Type 0 where
+pub record IsWrapped (f : FilesOver) (s : SourceOver) (of : Subject) (order : Order) (call max : ℕ) (made : List ℕ) : Type 0 where
   pub interface : Interface
   pub number : ℕ
   pub operation : Operation
@@ -200,6 +200,6 @@ pub record IsWrapped (f : FilesSeen) (s : SourceSeen) (of : Subject) (order : Or
   pub made_is : made ≡ Pieces order (head_for of.side number) call max stub
 
 -- why nothing is written: as the text is not encoded
-abbrev pub IsNoWrap : FilesSeen → SourceSeen → Subject → Refusal → Type 0
+abbrev pub IsNoWrap : FilesOver → SourceOver → Subject → Refusal → Type 0
 IsNoWrap f s of r =
     (IsReadyCause f of r × IsUntouched s) ⊎ ((w : Setting) × IsReady f of w × IsInputEncodingCause s w WRAP_CHUNK r)

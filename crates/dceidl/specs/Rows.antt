@@ -2,7 +2,7 @@
 use Rattle.std.specs.Prelude.{◌≡◌, ◌⊎◌, ℕ, ◌+◌, ◌<◌, ◌++◌, Err, length, Bool, true, false, List, [], ◌∷◌, codes, decimal, take, Option, None, Some, ⊤}
 use Rattle.std.specs.List.{slice_get}
 use Rattle.nd_base.specs.declared.octets.Order.{Order}
-use Rattle.nd_base.specs.Over.{IsMissing, FilesSeen, SourceSeen, SinkSeen, HasRisen, Got, IsAsBefore, Rose}
+use Rattle.nd_base.specs.Over.{IsMissing, FilesOver, SourceOver, SinkOver, HasRisen, Got, IsAsBefore, Rose}
 use Rattle.nd_types.specs.declared.interface.Interface.{Interface}
 use Rattle.nd_types.specs.declared.types.Operation.{Operation}
 use Rattle.nd_types.specs.declared.types.Side.TheVariants.{Out}
@@ -56,14 +56,14 @@ use Rattle.command_refusals.specs.declared.refusal.RequestFault.{RequestFault}
 -- ## What a status says
 
 -- A command was done: it made this text, out grew by it, and notes are as before.
-pub record IsDone (x : Seen) (out notes : SinkSeen) (c : Command) : Type 0 where
+pub record IsDone (x : Seen) (out notes : SinkOver) (c : Command) : Type 0 where
   pub made : List ℕ
   pub is_made : IsMade x c made
   pub given : Got out made
   pub quiet : IsAsBefore notes
 
 -- A command was refused: for a cause, under its status and with its line on notes, and out is as before.
-pub record IsRefusedWith (x : Seen) (out notes : SinkSeen) (c : Command) (status : ℕ) : Type 0 where
+pub record IsRefusedWith (x : Seen) (out notes : SinkOver) (c : Command) (status : ℕ) : Type 0 where
   pub refusal : Refusal
   pub cause : IsCause x c refusal
   pub own_status : status ≡ status_of refusal
@@ -72,7 +72,7 @@ pub record IsRefusedWith (x : Seen) (out notes : SinkSeen) (c : Command) (status
   pub untold : IsUntold c refusal
 
 -- A command was refused: under its status and with its line on notes, and out got what it writes beside the line.
-pub record IsRefusedBeside (x : Seen) (out notes : SinkSeen) (c : Command) (status : ℕ) : Type 0 where
+pub record IsRefusedBeside (x : Seen) (out notes : SinkOver) (c : Command) (status : ℕ) : Type 0 where
   pub refusal : Refusal
   pub text : List ℕ
   pub beside : IsWrittenBeside x c refusal text
@@ -81,7 +81,7 @@ pub record IsRefusedBeside (x : Seen) (out notes : SinkSeen) (c : Command) (stat
   pub given : Got out text
 
 -- The words of `why` have no entry: the names that are nearest were given, and notes got the line of refused words.
-pub record IsAnsweredNearest (out notes : SinkSeen) (c : Command) (status : ℕ) : Type 0 where
+pub record IsAnsweredNearest (out notes : SinkOver) (c : Command) (status : ℕ) : Type 0 where
   pub text : List ℕ
   pub unexplained : IsUnexplained c text
   pub own_status : status ≡ 2
@@ -89,7 +89,7 @@ pub record IsAnsweredNearest (out notes : SinkSeen) (c : Command) (status : ℕ)
   pub given : Got out text
 
 -- what any other status than 0, 4 and 5 says of a command
-abbrev pub IsRefused : Seen → SinkSeen → SinkSeen → Command → ℕ → Type 0
+abbrev pub IsRefused : Seen → SinkOver → SinkOver → Command → ℕ → Type 0
 IsRefused x out notes (Why words) status = IsAnsweredNearest out notes (Why words) status
 IsRefused x out notes c status = IsRefusedWith x out notes c status ⊎ IsRefusedBeside x out notes c status
 
@@ -129,12 +129,12 @@ IsDue None held name = ⊥
 IsDue (Some c) held name = IsDueOf held (asks_files c) name ⊎ IsDueNext held c name
 
 -- the file of a line is due and, where the contents of files are known, not held
-abbrev pub IsDueAndMissing : Option Command → Option (List ℕ → Option (List ℕ)) → SinkSeen → Type 0
+abbrev pub IsDueAndMissing : Option Command → Option (List ℕ → Option (List ℕ)) → SinkOver → Type 0
 IsDueAndMissing command held notes =
     (name : List ℕ) × IsDue command held name × IsMissing held name × Got notes (joined (codes "absent: " ∷ name ∷ codes "\n" ∷ []))
 
 -- the file of a line is due
-abbrev pub IsDueAndReported : Option Command → Option (List ℕ → Option (List ℕ)) → SinkSeen → Type 0
+abbrev pub IsDueAndReported : Option Command → Option (List ℕ → Option (List ℕ)) → SinkOver → Type 0
 IsDueAndReported command held notes = (name : List ℕ) × IsDue command held name × Got notes (joined (codes "file fault: " ∷ name ∷ codes "\n" ∷ []))
 
 -- the count of faults of the end of this number rose
@@ -146,13 +146,13 @@ pub record EndRose (e : EndsSeen) (which : ℕ) : Type 0 where
   pub risen : Rose was.faults is.faults
 
 -- the end of a line failed
-abbrev pub IsEndReported : EndsSeen → SinkSeen → Type 0
+abbrev pub IsEndReported : EndsSeen → SinkOver → Type 0
 IsEndReported e notes = (which : ℕ) × EndRose e which × Got notes (joined (codes "pipe end " ∷ decimal which ∷ codes " failed\n" ∷ []))
 
 -- ## Where nothing fails
 
 -- no count rose
-pub record HasNotFailed (x : Seen) (out notes : SinkSeen) : Type 0 where
+pub record HasNotFailed (x : Seen) (out notes : SinkOver) : Type 0 where
   pub found : HasRisen x.files.absences → ⊥
   pub loads : HasRisen x.files.faults → ⊥
   pub reads : HasRisen x.input.faults → ⊥
@@ -161,12 +161,12 @@ pub record HasNotFailed (x : Seen) (out notes : SinkSeen) : Type 0 where
   pub reports : HasRisen notes.faults → ⊥
 
 -- no load failed, and notes did not
-pub record IsSound (x : Seen) (notes : SinkSeen) : Type 0 where
+pub record IsSound (x : Seen) (notes : SinkOver) : Type 0 where
   pub loads : HasRisen x.files.faults → ⊥
   pub reports : HasRisen notes.faults → ⊥
 
 -- The main file is held, the files mean this interface, it has the operation, and this is its setting.
-pub record IsAccepted (f : FilesSeen) (of : Subject) (w : Setting) : Type 0 where
+pub record IsAccepted (f : FilesOver) (of : Subject) (w : Setting) : Type 0 where
   pub file : List ℕ
   pub interface : Interface
   pub number : ℕ
@@ -177,7 +177,7 @@ pub record IsAccepted (f : FilesSeen) (of : Subject) (w : Setting) : Type 0 wher
   pub setting_is : w ≡ setting_of interface operation of.side
 
 -- The same beside the request of a file, which is held.
-pub record IsAcceptedBeside (f : FilesSeen) (of : Subject) (name : List ℕ) (w : Setting) : Type 0 where
+pub record IsAcceptedBeside (f : FilesOver) (of : Subject) (name : List ℕ) (w : Setting) : Type 0 where
   pub own : Setting
   pub accepted : IsAccepted f of own
   pub text : List ℕ
@@ -187,7 +187,7 @@ pub record IsAcceptedBeside (f : FilesSeen) (of : Subject) (name : List ℕ) (w 
   pub setting_is : w ≡ beside own request
 
 -- the same with the request of a file if one is named
-abbrev pub AreAccepted : FilesSeen → Subject → Option (List ℕ) → Setting → Type 0
+abbrev pub AreAccepted : FilesOver → Subject → Option (List ℕ) → Setting → Type 0
 AreAccepted f of None w = IsAccepted f of w
 AreAccepted f of (Some name) w = IsAcceptedBeside f of name w
 
@@ -198,7 +198,7 @@ pub record IsTrailing (w : Setting) (order : Order) (octets : List ℕ) (place :
   pub follows : place < length octets
 
 -- The octets of the input are known: a label of this order if the command asks for one, and these octets after it. No fetch failed.
-pub record AreGivenIn (s : SourceSeen) (word : OrderWord) (order : Order) (octets : List ℕ) : Type 0 where
+pub record AreGivenIn (s : SourceOver) (word : OrderWord) (order : Order) (octets : List ℕ) : Type 0 where
   pub label : List ℕ
   pub is_label : IsLabel word label order
   pub given : AreGiven s (label ++ octets)
@@ -216,7 +216,7 @@ HasEnds Trace w e = ⊤
 HasEnds Drain w e = AreSound w e
 
 -- something is made of the input, unless memory runs out
-abbrev pub CanBeMade : SourceSeen → EndsSeen → Task → Setting → Type 0
+abbrev pub CanBeMade : SourceOver → EndsSeen → Task → Setting → Type 0
 CanBeMade s e (Read how word) w =
     (order : Order) × (octets : List ℕ) × (g : Graph) × AreGivenIn s word order octets × Represents w order octets g × Conforms w g × HasEnds how w e
 CanBeMade s e (Encode word chunk) w =
@@ -225,21 +225,21 @@ CanBeMade s e (Encode word chunk) w =
 CanBeMade s e Migrate w = (text : List ℕ) × (g : Graph) × IsInput s TEXT_LIMIT text × ReadsAs w text g × Conforms w g
 
 -- The main file is held, the files mean this interface, and it has the operation if one is named.
-pub record IsCallAccepted (f : FilesSeen) (idl : List ℕ) (acf op : Option (List ℕ)) (i : Interface) (number : Option ℕ) : Type 0 where
+pub record IsCallAccepted (f : FilesOver) (idl : List ℕ) (acf op : Option (List ℕ)) (i : Interface) (number : Option ℕ) : Type 0 where
   pub file : List ℕ
   pub held : IsHeld f idl file
   pub means : Means f.held idl file acf i
   pub numbered : IsNumbered i op number
 
 -- The octets of the input are known, and are the fragments of one call, whose operation the interface has, with these stub data. No fetch failed.
-pub record IsCallGiven (s : SourceSeen) (i : Interface) (number : Option ℕ) (order : Order) (operation : Operation) (stub : List ℕ) : Type 0 where
+pub record IsCallGiven (s : SourceOver) (i : Interface) (number : Option ℕ) (order : Order) (operation : Operation) (stub : List ℕ) : Type 0 where
   pub octets : List ℕ
   pub given : AreGiven s octets
   pub call : ℕ
   pub is_call : IsCall i number octets order call operation stub
 
 -- the stub data are decoded, unless memory runs out
-abbrev pub CanBeCalled : SourceSeen → Interface → Option ℕ → Type 0
+abbrev pub CanBeCalled : SourceOver → Interface → Option ℕ → Type 0
 CanBeCalled s i number =
     (order : Order) × (operation : Operation) × (stub : List ℕ) × (g : Graph) × IsCallGiven s i number order operation stub
     × Represents (setting_of i operation (called.side number)) order stub g × Conforms (setting_of i operation (called.side number)) g
@@ -258,7 +258,7 @@ CanBeDone x Help = ⊤
 CanBeDone x Version = ⊤
 
 -- what a command on values speaks of is refused in this way
-abbrev pub MustBeUnready : FilesSeen → Subject → Refusal → Type 0
+abbrev pub MustBeUnready : FilesOver → Subject → Refusal → Type 0
 MustBeUnready f of NoOperation =
     (text : List ℕ) × (i : Interface) × IsHeld f of.idl text × Means f.held of.idl text of.acf i × (operation_named i.operations of.op ≡ None)
 MustBeUnready f of r = MustBeNoIdl f of.idl of.acf r
@@ -269,20 +269,20 @@ IsRefusedAt w order octets place (Refused reason) = Bad w order octets place rea
 IsRefusedAt w order octets place Trailing = IsTrailing w order octets place
 
 -- the request of a file is refused in this way
-abbrev pub MustBeNoRequest : FilesSeen → Subject → Option (List ℕ) → RequestFault → Type 0
+abbrev pub MustBeNoRequest : FilesOver → Subject → Option (List ℕ) → RequestFault → Type 0
 MustBeNoRequest f of None why = ⊥
 MustBeNoRequest f of (Some name) why =
     (own : Setting) × (text : List ℕ) × IsAccepted f of own × IsHeld f name text × IsRequestFault own text why
 
 -- the label of the input is refused in this way
-abbrev pub MustBeNoLabel : SourceSeen → OrderWord → Refusal → Type 0
+abbrev pub MustBeNoLabel : SourceOver → OrderWord → Refusal → Type 0
 MustBeNoLabel s Label (BadLabel why) =
     (label : List ℕ) × (octets : List ℕ) × AreGiven s (label ++ octets) × (length label ≡ 4) × (order_of_label label ≡ Err why)
 MustBeNoLabel s Label ShortLabel = (octets : List ℕ) × AreGiven s octets × (length octets < 4)
 MustBeNoLabel s _ _ = ⊥
 
 -- the octets of the input are refused in this way, or their label is, or there are too few ends for its pipes
-abbrev pub MustBeNoOctets : SourceSeen → EndsSeen → Reading → OrderWord → Setting → Refusal → Type 0
+abbrev pub MustBeNoOctets : SourceOver → EndsSeen → Reading → OrderWord → Setting → Refusal → Type 0
 MustBeNoOctets s e how word w (BadLabel why) = MustBeNoLabel s word (BadLabel why)
 MustBeNoOctets s e how word w ShortLabel = MustBeNoLabel s word ShortLabel
 MustBeNoOctets s e how word w (BadOctets place why) =
@@ -292,25 +292,25 @@ MustBeNoOctets s e Drain word w (TooFewEnds wanted found) =
 MustBeNoOctets s e how word w _ = ⊥
 
 -- the text of the input is refused in this way
-abbrev pub MustBeNoText : SourceSeen → Setting → Refusal → Type 0
+abbrev pub MustBeNoText : SourceOver → Setting → Refusal → Type 0
 MustBeNoText s w (BadText line column why) = (text : List ℕ) × IsInput s TEXT_LIMIT text × IsTextFault w text line column why
 MustBeNoText s w (BadValue path why) = (text : List ℕ) × (g : Graph) × IsInput s TEXT_LIMIT text × ReadsAs w text g × IsMisfitAt w g path why
 MustBeNoText s w _ = ⊥
 
 -- the same of a text that is encoded
-abbrev pub MustBeNoEncoding : SourceSeen → Setting → ℕ → Refusal → Type 0
+abbrev pub MustBeNoEncoding : SourceOver → Setting → ℕ → Refusal → Type 0
 MustBeNoEncoding s w chunk (TooLong many) =
     (text : List ℕ) × (g : Graph) × IsInput s TEXT_LIMIT text × ReadsAs w text g × Conforms w g × IsLong w chunk g many
 MustBeNoEncoding s w chunk r = MustBeNoText s w r
 
 -- the input is refused in this way
-abbrev pub MustBeNoInput : SourceSeen → EndsSeen → Task → Setting → Refusal → Type 0
+abbrev pub MustBeNoInput : SourceOver → EndsSeen → Task → Setting → Refusal → Type 0
 MustBeNoInput s e (Read how word) w r = MustBeNoOctets s e how word w r
 MustBeNoInput s e (Encode word chunk) w r = MustBeNoEncoding s w chunk r
 MustBeNoInput s e Migrate w r = MustBeNoText s w r
 
 -- the files or the operation of `call` are refused in this way
-abbrev pub MustBeNoCall : FilesSeen → List ℕ → Option (List ℕ) → Option (List ℕ) → Refusal → Type 0
+abbrev pub MustBeNoCall : FilesOver → List ℕ → Option (List ℕ) → Option (List ℕ) → Refusal → Type 0
 MustBeNoCall f idl acf None r = MustBeNoIdl f idl acf r
 MustBeNoCall f idl acf (Some op) r = MustBeUnready f (record { idl = idl; acf = acf; op = op; side = Out }) r
 
@@ -343,7 +343,7 @@ IsRefusedCall i number octets place fragments.Trailing = IsTrailedCall (called.w
 IsRefusedCall i number octets place (fragments.NoOperation n) = IsCallOfNone i (called.wanted number) octets place n
 
 -- the fragments of the input, or their stub data, are refused in this way
-abbrev pub MustBeNoFragments : SourceSeen → Interface → Option ℕ → Refusal → Type 0
+abbrev pub MustBeNoFragments : SourceOver → Interface → Option ℕ → Refusal → Type 0
 MustBeNoFragments s i number (BadPdu place why) = (octets : List ℕ) × AreGiven s octets × IsRefusedCall i number octets place why
 MustBeNoFragments s i number (BadOctets place why) =
     (order : Order) × (operation : Operation) × (stub : List ℕ) × IsCallGiven s i number order operation stub
@@ -373,6 +373,6 @@ MustBeRefused x Help r = ⊥
 MustBeRefused x Version r = ⊥
 
 -- A command is refused in this way, or it ran out of memory; or, if it can write to out although it is refused, out failed.
-abbrev pub Refuses : Command → SinkSeen → ℕ → Refusal → Type 0
+abbrev pub Refuses : Command → SinkOver → ℕ → Refusal → Type 0
 Refuses c notes status refusal =
     ((status ≡ status_of refusal) × Got notes (line_of (idl_of c) (op_of c) refusal)) ⊎ ((status ≡ 5) ⊎ ((tells c ≡ true) × (status ≡ 4)))

@@ -1,6 +1,6 @@
 -- What a run comes to, and how it is written. Nothing here speaks of one command.
 use Rattle.std.specs.Prelude.{◌≡◌, ◌⊎◌, ℕ, List, Option, None, Some, codes, ⊤}
-use Rattle.nd_base.specs.Over.{SinkSeen}
+use Rattle.nd_base.specs.Over.{SinkOver}
 use Rattle.command_streams.specs.Delivery.{IsDelivered}
 use Rattle.dceidl.specs.Asked.{Asks, Seen}
 use Rattle.dceidl.specs.Causes.{IsMade, IsCause, IsWrittenBeside, IsUntold, IsUnexplained}
@@ -48,7 +48,7 @@ IsOutcome x None outcome = (outcome ≡ Refused 2 (codes "words refused\n")) ⊎
 IsOutcome x (Some c) outcome = IsCommandOutcome x c outcome
 
 -- the whole of a run: what was asked for, an outcome with its cause, and how it was written
-pub record HasRun (words : List (List ℕ)) (x : Seen) (out notes : SinkSeen) (status : ℕ) : Type 0 where
+pub record HasRun (words : List (List ℕ)) (x : Seen) (out notes : SinkOver) (status : ℕ) : Type 0 where
   pub asked : Asks x (command words)
   pub outcome : Outcome
   pub caused : IsOutcome x (command words) outcome

@@ -1,6 +1,6 @@
 -- All that `run` promises, as one record: a row for each of its clauses.
 use Rattle.std.specs.Prelude.{◌≡◌, ◌≢◌, ◌⊎◌, ℕ, false, List, [], ◌∷◌, None, Some, codes}
-use Rattle.nd_base.specs.Over.{SinkSeen, HasRisen, Got}
+use Rattle.nd_base.specs.Over.{SinkOver, HasRisen, Got}
 use Rattle.command_line.specs.Words.{Command, command}
 use Rattle.command_refusals.specs.declared.refusal.Refusal.{Refusal}
 use Rattle.command_streams.specs.Delivery.{IsOneOf, IsCompleted}
@@ -11,7 +11,7 @@ use Rattle.dceidl.specs.Rows.{HasNotFailed, IsSound, CanBeDone, MustBeRefused, R
 use Rattle.dceidl.specs.Run.{HasRun}
 
 -- what `run` promises of a command line
-pub record IsRun (line : List (List ℕ)) (x : Seen) (out notes : SinkSeen) (status : ℕ) : Type 0 where
+pub record IsRun (line : List (List ℕ)) (x : Seen) (out notes : SinkOver) (status : ℕ) : Type 0 where
   pub whole : HasRun line x out notes status
   pub asked : Asks x (command line)
   pub statuses : (c : Command) → command line ≡ Some c → IsOneOf (statuses_of c) status

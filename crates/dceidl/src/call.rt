@@ -1,6 +1,6 @@
 // The fragments of the input are printed as a call.
 ghost use Rattle.std.specs.Prelude.{◌≡◌, Some, None, option_map, IfOk, IfErr};
-ghost use Rattle.nd_base.specs.Over.{files_seen, source_seen};
+ghost use Rattle.nd_base.specs.Over.{files_over, source_over};
 ghost use Rattle.command_compile.specs.Compiled.{AsksFiles};
 ghost use Rattle.dceidl.specs.Input.{HasCalled, IsNoCall};
 
@@ -22,12 +22,12 @@ pub(crate) fn call<F: Files, S: Source>(
     files: &mut F,
     input: &mut S,
 ) -> Result<Octets, Refusal>
-    ensures asked { AsksFiles (files_seen F.held F.absences F.faults F.asked files.old files.new)
+    ensures asked { AsksFiles (files_over F.seen files.old files.new)
         (Some (record { idl = idl.now; acf = option_map (λ a. a.now) acf.entry })) }
-    ensures done { IfOk result (HasCalled (files_seen F.held F.absences F.faults F.asked files.old files.new)
-        (source_seen S.left S.ended S.faults input.old input.new) idl.now (option_map (λ a. a.now) acf.entry) (option_map (λ a. a.now) op.entry)) }
-    ensures refused { IfErr result (IsNoCall (files_seen F.held F.absences F.faults F.asked files.old files.new)
-        (source_seen S.left S.ended S.faults input.old input.new) idl.now (option_map (λ a. a.now) acf.entry) (option_map (λ a. a.now) op.entry)) }
+    ensures done { IfOk result (HasCalled (files_over F.seen files.old files.new)
+        (source_over S.seen input.old input.new) idl.now (option_map (λ a. a.now) acf.entry) (option_map (λ a. a.now) op.entry)) }
+    ensures refused { IfErr result (IsNoCall (files_over F.seen files.old files.new)
+        (source_over S.seen input.old input.new) idl.now (option_map (λ a. a.now) acf.entry) (option_map (λ a. a.now) op.entry)) }
 {
     match op {
         None => request(alloc, idl, acf, files, input),
@@ -43,12 +43,12 @@ fn request<F: Files, S: Source>(
     files: &mut F,
     input: &mut S,
 ) -> Result<Octets, Refusal>
-    ensures asked { AsksFiles (files_seen F.held F.absences F.faults F.asked files.old files.new)
+    ensures asked { AsksFiles (files_over F.seen files.old files.new)
         (Some (record { idl = idl.now; acf = option_map (λ a. a.now) acf.entry })) }
-    ensures done { IfOk result (HasCalled (files_seen F.held F.absences F.faults F.asked files.old files.new)
-        (source_seen S.left S.ended S.faults input.old input.new) idl.now (option_map (λ a. a.now) acf.entry) None) }
-    ensures refused { IfErr result (IsNoCall (files_seen F.held F.absences F.faults F.asked files.old files.new)
-        (source_seen S.left S.ended S.faults input.old input.new) idl.now (option_map (λ a. a.now) acf.entry) None) }
+    ensures done { IfOk result (HasCalled (files_over F.seen files.old files.new)
+        (source_over S.seen input.old input.new) idl.now (option_map (λ a. a.now) acf.entry) None) }
+    ensures refused { IfErr result (IsNoCall (files_over F.seen files.old files.new)
+        (source_over S.seen input.old input.new) idl.now (option_map (λ a. a.now) acf.entry) None) }
 {
     let interface = compile(alloc, idl, acf, files)?;
     print_call(alloc, &interface, None, input)
@@ -63,12 +63,12 @@ fn response<F: Files, S: Source>(
     files: &mut F,
     input: &mut S,
 ) -> Result<Octets, Refusal>
-    ensures asked { AsksFiles (files_seen F.held F.absences F.faults F.asked files.old files.new)
+    ensures asked { AsksFiles (files_over F.seen files.old files.new)
         (Some (record { idl = idl.now; acf = option_map (λ a. a.now) acf.entry })) }
-    ensures done { IfOk result (HasCalled (files_seen F.held F.absences F.faults F.asked files.old files.new)
-        (source_seen S.left S.ended S.faults input.old input.new) idl.now (option_map (λ a. a.now) acf.entry) (Some op.now)) }
-    ensures refused { IfErr result (IsNoCall (files_seen F.held F.absences F.faults F.asked files.old files.new)
-        (source_seen S.left S.ended S.faults input.old input.new) idl.now (option_map (λ a. a.now) acf.entry) (Some op.now)) }
+    ensures done { IfOk result (HasCalled (files_over F.seen files.old files.new)
+        (source_over S.seen input.old input.new) idl.now (option_map (λ a. a.now) acf.entry) (Some op.now)) }
+    ensures refused { IfErr result (IsNoCall (files_over F.seen files.old files.new)
+        (source_over S.seen input.old input.new) idl.now (option_map (λ a. a.now) acf.entry) (Some op.now)) }
 {
     let of = Subject {
         idl,

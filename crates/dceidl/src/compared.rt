@@ -1,6 +1,6 @@
 // `compat .. why`: two versions are compared, and the first place at which they differ is written beside the refusal.
 ghost use Rattle.std.specs.Prelude.{◌≡◌, true, false, option_map, IfSome, IfNone};
-ghost use Rattle.nd_base.specs.Over.{FilesSeen, files_seen};
+ghost use Rattle.nd_base.specs.Over.{FilesOver, files_over};
 ghost use Rattle.command_compile.specs.Compiled.{FileNames};
 ghost use Rattle.command_compile.specs.Compat.{AsksBoth, IsIncompatible};
 ghost use Rattle.command_line.specs.Commands.{command_of};
@@ -61,10 +61,10 @@ pub(crate) fn asked_versions(command: Command<'_>) -> Option<Versions<'_>>
 
 // What the comparison of two versions comes to.
 pub(crate) fn compared<F: Files>(alloc: Global, versions: Versions<'_>, files: &mut F) -> Outcome
-    ensures asked { AsksBoth (files_seen F.held F.absences F.faults F.asked files.old files.new)
+    ensures asked { AsksBoth (files_over F.seen files.old files.new)
         (record { idl = versions.entry.old.now; acf = option_map (λ a. a.now) versions.entry.old_acf })
         (record { idl = versions.entry.new.now; acf = option_map (λ a. a.now) versions.entry.new_acf }) }
-    ensures outcome { IsComparedOutcome (files_seen F.held F.absences F.faults F.asked files.old files.new)
+    ensures outcome { IsComparedOutcome (files_over F.seen files.old files.new)
         (record { idl = versions.entry.old.now; acf = option_map (λ a. a.now) versions.entry.old_acf })
         (record { idl = versions.entry.new.now; acf = option_map (λ a. a.now) versions.entry.new_acf }) result }
 {
@@ -83,7 +83,7 @@ pub(crate) fn compared<F: Files>(alloc: Global, versions: Versions<'_>, files: &
 
 // The outcome of versions that are not compatible.
 fn incompatible(alloc: Global, why: Incompatible) -> Outcome
-    ensures { (f : FilesSeen) (old new : FileNames) → IsIncompatible f old new why → IsComparedOutcome f old new result }
+    ensures { (f : FilesOver) (old new : FileNames) → IsIncompatible f old new why → IsComparedOutcome f old new result }
 {
     let Incompatible { refusal, place } = why;
     let Ok(line) = line(alloc, "", "", &refusal) else {

@@ -16,7 +16,7 @@ ghost use Rattle.command_decode.specs.Decoded.{IsDecoding};
 ghost use Rattle.ndr_prim.specs.Label.{order_of_label};
 ghost use Rattle.command_line.specs.Words.{Subject, order_in};
 ghost use Rattle.command_line.specs.declared.TheConstants.{LEAST_MAX};
-ghost use Rattle.nd_base.specs.Over.{FilesSeen, SourceSeen};
+ghost use Rattle.nd_base.specs.Over.{FilesOver, SourceOver};
 ghost use Rattle.command_call.specs.Called.{IsCall, IsCalled, call_line};
 ghost use Rattle.command_streams.specs.Input.{AreGiven};
 ghost use Rattle.dceidl.specs.Input.{IsWrapped, stated_for, IsEncoding, IsMigration, label_for};
@@ -109,11 +109,11 @@ pub fn encode_undoes_decode()
 /// What `wrap` writes is what `call` reads: the fragments of one call, with the order and the call id that it was given, the operation of the
 /// interface, and as stub data the octets that were encoded; and what `call` writes of it is the call id and what `migrate` writes of the text.
 pub fn call_undoes_wrap()
-    ensures is_call { (f : FilesSeen) (s : SourceSeen) (of : Subject) (order : Order) (call max : ℕ) (made : List ℕ)
+    ensures is_call { (f : FilesOver) (s : SourceOver) (of : Subject) (order : Order) (call max : ℕ) (made : List ℕ)
         → call < 2 ^ 32 → LEAST_MAX ≤ max → max < 2 ^ 16 → (h : IsWrapped f s of order call max made)
         → IsCall h.interface (stated_for of.side h.number) made order call h.operation h.stub }
-    ensures printed { (f : FilesSeen) (s : SourceSeen) (of : Subject) (order : Order) (call max : ℕ) (made : List ℕ)
-        → call < 2 ^ 32 → LEAST_MAX ≤ max → max < 2 ^ 16 → (h : IsWrapped f s of order call max made) → (t : SourceSeen) → AreGiven t made
+    ensures printed { (f : FilesOver) (s : SourceOver) (of : Subject) (order : Order) (call max : ℕ) (made : List ℕ)
+        → call < 2 ^ 32 → LEAST_MAX ≤ max → max < 2 ^ 16 → (h : IsWrapped f s of order call max made) → (t : SourceOver) → AreGiven t made
         → (printed other : List ℕ) → IsCalled t h.interface (stated_for of.side h.number) printed
         → IsMigration (setting_of h.interface h.operation of.side) h.encoded.0 other → printed ≡ call_line call ++ other }
 {

@@ -1,7 +1,7 @@
 // What each command does.
 ghost use Rattle.std.specs.Prelude.{◌≡◌, ◌<◌, ◌≤◌, [], ◌∷◌, ◌++◌, length, Some, None, option_map, IfOk, IfErr};
 ghost use Rattle.std.specs.List.{slice_get};
-ghost use Rattle.nd_base.specs.Over.{files_seen, source_seen};
+ghost use Rattle.nd_base.specs.Over.{files_over, source_over};
 ghost use Rattle.nd_types.specs.declared.types.Operation.{Operation};
 ghost use Rattle.nd_types.specs.declared.types.Side.TheVariants.{Out};
 ghost use Rattle.nd_value.specs.Fitting.{setting_of, setting_beside};
@@ -43,15 +43,15 @@ pub(crate) fn perform<F: Files, S: Source, E: PipeEnd>(
     requires open { AreOpen (ends_seen E.seen ends.old) }
     requires formed { IsWellFormed command }
     ensures asked { AsksFor
-        (seen_over (files_seen F.held F.absences F.faults F.asked files.old files.new) (source_seen S.left S.ended S.faults input.old input.new)
+        (seen_over (files_over F.seen files.old files.new) (source_over S.seen input.old input.new)
         (ends_over E.seen ends.old ends.new))
         (command_of command.entry) }
     ensures done { IfOk result (IsMade
-        (seen_over (files_seen F.held F.absences F.faults F.asked files.old files.new) (source_seen S.left S.ended S.faults input.old input.new)
+        (seen_over (files_over F.seen files.old files.new) (source_over S.seen input.old input.new)
         (ends_over E.seen ends.old ends.new))
         (command_of command.entry)) }
     ensures refused { IfErr result (IsCause
-        (seen_over (files_seen F.held F.absences F.faults F.asked files.old files.new) (source_seen S.left S.ended S.faults input.old input.new)
+        (seen_over (files_over F.seen files.old files.new) (source_over S.seen input.old input.new)
         (ends_over E.seen ends.old ends.new))
         (command_of command.entry)) }
 {
@@ -100,15 +100,15 @@ fn perform_alone<F: Files, S: Source, E: PipeEnd>(
     requires open { AreOpen (ends_seen E.seen ends.old) }
     requires chunk { HasChunks task }
     ensures asked { AsksFor
-        (seen_over (files_seen F.held F.absences F.faults F.asked files.old files.new) (source_seen S.left S.ended S.faults input.old input.new)
+        (seen_over (files_over F.seen files.old files.new) (source_over S.seen input.old input.new)
         (ends_over E.seen ends.old ends.new))
         (Values task (subject_of of.entry) None) }
     ensures done { IfOk result (IsMade
-        (seen_over (files_seen F.held F.absences F.faults F.asked files.old files.new) (source_seen S.left S.ended S.faults input.old input.new)
+        (seen_over (files_over F.seen files.old files.new) (source_over S.seen input.old input.new)
         (ends_over E.seen ends.old ends.new))
         (Values task (subject_of of.entry) None)) }
     ensures refused { IfErr result (IsCause
-        (seen_over (files_seen F.held F.absences F.faults F.asked files.old files.new) (source_seen S.left S.ended S.faults input.old input.new)
+        (seen_over (files_over F.seen files.old files.new) (source_over S.seen input.old input.new)
         (ends_over E.seen ends.old ends.new))
         (Values task (subject_of of.entry) None)) }
 {
@@ -130,15 +130,15 @@ fn perform_beside<F: Files, S: Source, E: PipeEnd>(
     requires chunk { HasChunks task }
     requires outputs { of.side ≡ Out }
     ensures asked { AsksFor
-        (seen_over (files_seen F.held F.absences F.faults F.asked files.old files.new) (source_seen S.left S.ended S.faults input.old input.new)
+        (seen_over (files_over F.seen files.old files.new) (source_over S.seen input.old input.new)
         (ends_over E.seen ends.old ends.new))
         (Values task (subject_of of.entry) (Some name.now)) }
     ensures done { IfOk result (IsMade
-        (seen_over (files_seen F.held F.absences F.faults F.asked files.old files.new) (source_seen S.left S.ended S.faults input.old input.new)
+        (seen_over (files_over F.seen files.old files.new) (source_over S.seen input.old input.new)
         (ends_over E.seen ends.old ends.new))
         (Values task (subject_of of.entry) (Some name.now))) }
     ensures refused { IfErr result (IsCause
-        (seen_over (files_seen F.held F.absences F.faults F.asked files.old files.new) (source_seen S.left S.ended S.faults input.old input.new)
+        (seen_over (files_over F.seen files.old files.new) (source_over S.seen input.old input.new)
         (ends_over E.seen ends.old ends.new))
         (Values task (subject_of of.entry) (Some name.now))) }
 {
@@ -160,20 +160,20 @@ fn perform_after<F: Files, S: Source, E: PipeEnd>(
     requires known { ready.now.number < length ready.now.interface.operations }
     requires outputs { ready.now.side ≡ Out }
     requires chunk { HasChunks task }
-    ensures asked { F.asked files.new ≡ F.asked files.old ++ name.now ∷ [] }
-    ensures same { F.held files.new ≡ F.held files.old }
-    ensures later { F.faults files.old ≤ F.faults files.new }
-    ensures absences_later { F.absences files.old ≤ F.absences files.new }
+    ensures asked { (F.seen files.new).asked ≡ (F.seen files.old).asked ++ name.now ∷ [] }
+    ensures same { (F.seen files.new).held ≡ (F.seen files.old).held }
+    ensures later { (F.seen files.old).faults ≤ (F.seen files.new).faults }
+    ensures absences_later { (F.seen files.old).absences ≤ (F.seen files.new).absences }
     ensures ends { AsksEnds (ends_over E.seen ends.old ends.new) (drains task) }
     ensures done { (o : Operation) → slice_get ready.now.interface.operations ready.now.number ≡ Some o
         → IfOk result
-        (IsMadeBeside (files_seen F.held F.absences F.faults F.asked files.old files.new)
-        (source_seen S.left S.ended S.faults input.old input.new) (ends_over E.seen ends.old ends.new) name.now task
+        (IsMadeBeside (files_over F.seen files.old files.new)
+        (source_over S.seen input.old input.new) (ends_over E.seen ends.old ends.new) name.now task
         (setting_of ready.now.interface o ready.now.side)) }
     ensures refused { (o : Operation) → slice_get ready.now.interface.operations ready.now.number ≡ Some o
         → IfErr result
-        (IsBesideCause (files_seen F.held F.absences F.faults F.asked files.old files.new)
-        (source_seen S.left S.ended S.faults input.old input.new) (ends_over E.seen ends.old ends.new) name.now task
+        (IsBesideCause (files_over F.seen files.old files.new)
+        (source_over S.seen input.old input.new) (ends_over E.seen ends.old ends.new) name.now task
         (setting_of ready.now.interface o ready.now.side)) }
 {
     let request = load_request(alloc, &ready.interface, ready.number, name, files)?;
@@ -195,10 +195,10 @@ fn perform_task<S: Source, E: PipeEnd>(
     requires chunk { HasChunks task }
     ensures ends { AsksEnds (ends_over E.seen ends.old ends.new) (drains task) }
     ensures done { (o : Operation) → slice_get ready.now.interface.operations ready.now.number ≡ Some o
-        → IfOk result (IsMadeOf (source_seen S.left S.ended S.faults input.old input.new) (ends_over E.seen ends.old ends.new) task
+        → IfOk result (IsMadeOf (source_over S.seen input.old input.new) (ends_over E.seen ends.old ends.new) task
         (setting_beside ready.now.interface o ready.now.side (option_map (λ f. f.now.graph) given.entry))) }
     ensures refused { (o : Operation) → slice_get ready.now.interface.operations ready.now.number ≡ Some o
-        → IfErr result (IsTaskCause (source_seen S.left S.ended S.faults input.old input.new) (ends_over E.seen ends.old ends.new) task
+        → IfErr result (IsTaskCause (source_over S.seen input.old input.new) (ends_over E.seen ends.old ends.new) task
         (setting_beside ready.now.interface o ready.now.side (option_map (λ f. f.now.graph) given.entry))) }
 {
     match task {
@@ -221,10 +221,10 @@ pub(crate) fn encode_input<S: Source>(
     requires request { IsRequestOf ready.now.interface ready.now.number ready.now.side (option_map (λ f. f.now) given) }
     requires chunk { 1 ≤ chunk }
     ensures done { (o : Operation) → slice_get ready.now.interface.operations ready.now.number ≡ Some o
-        → IfOk result (λ made. OfText (source_seen S.left S.ended S.faults input.old input.new) (λ text. IsLabelledEncoding
+        → IfOk result (λ made. OfText (source_over S.seen input.old input.new) (λ text. IsLabelledEncoding
         (setting_beside ready.now.interface o ready.now.side (option_map (λ f. f.now.graph) given.entry)) order chunk text made)) }
     ensures refused { (o : Operation) → slice_get ready.now.interface.operations ready.now.number ≡ Some o
-        → IfErr result (IsInputEncodingCause (source_seen S.left S.ended S.faults input.old input.new)
+        → IfErr result (IsInputEncodingCause (source_over S.seen input.old input.new)
         (setting_beside ready.now.interface o ready.now.side (option_map (λ f. f.now.graph) given.entry)) chunk) }
 {
     let text = read_input(alloc, input, TEXT_LIMIT)?;
@@ -241,10 +241,10 @@ fn migrate_input<S: Source>(
     requires known { ready.now.number < length ready.now.interface.operations }
     requires request { IsRequestOf ready.now.interface ready.now.number ready.now.side (option_map (λ f. f.now) given) }
     ensures done { (o : Operation) → slice_get ready.now.interface.operations ready.now.number ≡ Some o
-        → IfOk result (λ made. OfText (source_seen S.left S.ended S.faults input.old input.new) (λ text. IsMigration
+        → IfOk result (λ made. OfText (source_over S.seen input.old input.new) (λ text. IsMigration
         (setting_beside ready.now.interface o ready.now.side (option_map (λ f. f.now.graph) given.entry)) text made)) }
     ensures refused { (o : Operation) → slice_get ready.now.interface.operations ready.now.number ≡ Some o
-        → IfErr result (IsInputTextCause (source_seen S.left S.ended S.faults input.old input.new)
+        → IfErr result (IsInputTextCause (source_over S.seen input.old input.new)
         (setting_beside ready.now.interface o ready.now.side (option_map (λ f. f.now.graph) given.entry))) }
 {
     let text = read_input(alloc, input, TEXT_LIMIT)?;

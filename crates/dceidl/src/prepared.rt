@@ -1,6 +1,6 @@
 // What a command on values speaks of is made ready, with the request of a file if one is named.
 ghost use Rattle.std.specs.Prelude.{◌≡◌, ◌<◌, length, None, Some, option_map, IfOk, IfErr};
-ghost use Rattle.nd_base.specs.Over.{files_seen};
+ghost use Rattle.nd_base.specs.Over.{files_over};
 ghost use Rattle.nd_types.specs.declared.types.Side.TheVariants.{Out};
 ghost use Rattle.command_line.specs.Commands.{subject_of, IsJudged};
 ghost use Rattle.command_line.specs.Words.{Values};
@@ -32,13 +32,13 @@ pub(crate) fn prepare<F: Files>(
     files: &mut F,
 ) -> Result<Prepared, Refusal>
     requires judged { IsJudged of.side given }
-    ensures asked { (task : Task) → AsksFilesOf (files_seen F.held F.absences F.faults F.asked files.old files.new)
+    ensures asked { (task : Task) → AsksFilesOf (files_over F.seen files.old files.new)
         (Values task (subject_of of.entry) (option_map (λ g. g.now) given.entry)) }
     ensures prepared { IfOk result
-        (IsPrepared (files_seen F.held F.absences F.faults F.asked files.old files.new) (subject_of of.entry) (option_map (λ g. g.now) given.entry)) }
+        (IsPrepared (files_over F.seen files.old files.new) (subject_of of.entry) (option_map (λ g. g.now) given.entry)) }
     ensures known { IfOk result (λ p. p.ready.number < length p.ready.interface.operations) }
     ensures refused { IfErr result
-        (IsUnready (files_seen F.held F.absences F.faults F.asked files.old files.new) (subject_of of.entry) (option_map (λ g. g.now) given.entry)) }
+        (IsUnready (files_over F.seen files.old files.new) (subject_of of.entry) (option_map (λ g. g.now) given.entry)) }
 {
     match given {
         None => prepare_alone(alloc, of, files),
@@ -52,13 +52,13 @@ fn prepare_alone<F: Files>(
     of: Subject<'_>,
     files: &mut F,
 ) -> Result<Prepared, Refusal>
-    ensures asked { (task : Task) → AsksFilesOf (files_seen F.held F.absences F.faults F.asked files.old files.new)
+    ensures asked { (task : Task) → AsksFilesOf (files_over F.seen files.old files.new)
         (Values task (subject_of of.entry) None) }
     ensures prepared { IfOk result
-        (IsPrepared (files_seen F.held F.absences F.faults F.asked files.old files.new) (subject_of of.entry) None) }
+        (IsPrepared (files_over F.seen files.old files.new) (subject_of of.entry) None) }
     ensures known { IfOk result (λ p. p.ready.number < length p.ready.interface.operations) }
     ensures refused { IfErr result
-        (IsUnready (files_seen F.held F.absences F.faults F.asked files.old files.new) (subject_of of.entry) None) }
+        (IsUnready (files_over F.seen files.old files.new) (subject_of of.entry) None) }
 {
     let ready = make_ready(alloc, of, files)?;
     Ok(Prepared {
@@ -75,13 +75,13 @@ fn prepare_beside<F: Files>(
     files: &mut F,
 ) -> Result<Prepared, Refusal>
     requires outputs { of.side ≡ Out }
-    ensures asked { (task : Task) → AsksFilesOf (files_seen F.held F.absences F.faults F.asked files.old files.new)
+    ensures asked { (task : Task) → AsksFilesOf (files_over F.seen files.old files.new)
         (Values task (subject_of of.entry) (Some name.now)) }
     ensures prepared { IfOk result
-        (IsPrepared (files_seen F.held F.absences F.faults F.asked files.old files.new) (subject_of of.entry) (Some name.now)) }
+        (IsPrepared (files_over F.seen files.old files.new) (subject_of of.entry) (Some name.now)) }
     ensures known { IfOk result (λ p. p.ready.number < length p.ready.interface.operations) }
     ensures refused { IfErr result
-        (IsUnready (files_seen F.held F.absences F.faults F.asked files.old files.new) (subject_of of.entry) (Some name.now)) }
+        (IsUnready (files_over F.seen files.old files.new) (subject_of of.entry) (Some name.now)) }
 {
     let ready = make_ready(alloc, of, files)?;
     let request = load_request(alloc, &ready.interface, ready.number, name, files)?;

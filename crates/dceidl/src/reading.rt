@@ -1,7 +1,7 @@
 // The octets of the input are read, and what the command asks for is written of their values.
 ghost use Rattle.std.specs.Prelude.{◌≡◌, ◌<◌, length, Some, option_map, IfOk, IfErr};
 ghost use Rattle.std.specs.List.{slice_get};
-ghost use Rattle.nd_base.specs.Over.{source_seen};
+ghost use Rattle.nd_base.specs.Over.{source_over};
 ghost use Rattle.nd_types.specs.declared.types.Operation.{Operation};
 ghost use Rattle.nd_value.specs.Fitting.{setting_beside};
 ghost use Rattle.nd_value.specs.Request.{IsRequestOf};
@@ -39,10 +39,10 @@ pub(crate) fn read_octets<S: Source, E: PipeEnd>(
     requires request { IsRequestOf ready.now.interface ready.now.number ready.now.side (option_map (λ f. f.now) given) }
     ensures ends { AsksEnds (ends_over E.seen ends.old ends.new) (drains (Read how order)) }
     ensures done { (o : Operation) → slice_get ready.now.interface.operations ready.now.number ≡ Some o
-        → IfOk result (IsMadeOf (source_seen S.left S.ended S.faults input.old input.new) (ends_over E.seen ends.old ends.new) (Read how order)
+        → IfOk result (IsMadeOf (source_over S.seen input.old input.new) (ends_over E.seen ends.old ends.new) (Read how order)
         (setting_beside ready.now.interface o ready.now.side (option_map (λ f. f.now.graph) given.entry))) }
     ensures refused { (o : Operation) → slice_get ready.now.interface.operations ready.now.number ≡ Some o
-        → IfErr result (IsTaskCause (source_seen S.left S.ended S.faults input.old input.new) (ends_over E.seen ends.old ends.new) (Read how order)
+        → IfErr result (IsTaskCause (source_over S.seen input.old input.new) (ends_over E.seen ends.old ends.new) (Read how order)
         (setting_beside ready.now.interface o ready.now.side (option_map (λ f. f.now.graph) given.entry))) }
 {
     match order {
@@ -65,10 +65,10 @@ fn read_labelled<S: Source, E: PipeEnd>(
     requires request { IsRequestOf ready.now.interface ready.now.number ready.now.side (option_map (λ f. f.now) given) }
     ensures ends { AsksEnds (ends_over E.seen ends.old ends.new) (drains (Read how Label)) }
     ensures done { (o : Operation) → slice_get ready.now.interface.operations ready.now.number ≡ Some o
-        → IfOk result (IsMadeOf (source_seen S.left S.ended S.faults input.old input.new) (ends_over E.seen ends.old ends.new) (Read how Label)
+        → IfOk result (IsMadeOf (source_over S.seen input.old input.new) (ends_over E.seen ends.old ends.new) (Read how Label)
         (setting_beside ready.now.interface o ready.now.side (option_map (λ f. f.now.graph) given.entry))) }
     ensures refused { (o : Operation) → slice_get ready.now.interface.operations ready.now.number ≡ Some o
-        → IfErr result (IsTaskCause (source_seen S.left S.ended S.faults input.old input.new) (ends_over E.seen ends.old ends.new) (Read how Label)
+        → IfErr result (IsTaskCause (source_over S.seen input.old input.new) (ends_over E.seen ends.old ends.new) (Read how Label)
         (setting_beside ready.now.interface o ready.now.side (option_map (λ f. f.now.graph) given.entry))) }
 {
     let order = take_label(input)?;
@@ -90,10 +90,10 @@ fn read_values<S: Source, E: PipeEnd>(
     requires request { IsRequestOf ready.now.interface ready.now.number ready.now.side (option_map (λ f. f.now) given) }
     ensures ends { AsksEnds (ends_over E.seen ends.old ends.new) (drains (Read how (Fixed order))) }
     ensures done { (o : Operation) → slice_get ready.now.interface.operations ready.now.number ≡ Some o
-        → IfOk result (IsMadeReading how (source_seen S.left S.ended S.faults input.old input.new) (ends_over E.seen ends.old ends.new)
+        → IfOk result (IsMadeReading how (source_over S.seen input.old input.new) (ends_over E.seen ends.old ends.new)
         (setting_beside ready.now.interface o ready.now.side (option_map (λ f. f.now.graph) given.entry)) order) }
     ensures refused { (o : Operation) → slice_get ready.now.interface.operations ready.now.number ≡ Some o
-        → IfErr result (IsReadingCause how (source_seen S.left S.ended S.faults input.old input.new) (ends_over E.seen ends.old ends.new)
+        → IfErr result (IsReadingCause how (source_over S.seen input.old input.new) (ends_over E.seen ends.old ends.new)
         (setting_beside ready.now.interface o ready.now.side (option_map (λ f. f.now.graph) given.entry)) order) }
 {
     match how {
@@ -151,11 +151,11 @@ fn traced_alone<S: Source>(
     requires request { IsRequestOf interface.now op side (option_map (λ f. f.now) given) }
     ensures explained { (o : Operation) → slice_get interface.now.operations op ≡ Some o
         → IfOk result
-        (IsExplained (source_seen S.left S.ended S.faults input.old input.new)
+        (IsExplained (source_over S.seen input.old input.new)
         (setting_beside interface.now o side (option_map (λ f. f.now.graph) given.entry)) order) }
     ensures refused { (o : Operation) → slice_get interface.now.operations op ≡ Some o
         → IfErr result
-        (IsTraceCause (source_seen S.left S.ended S.faults input.old input.new)
+        (IsTraceCause (source_over S.seen input.old input.new)
         (setting_beside interface.now o side (option_map (λ f. f.now.graph) given.entry)) order) }
 {
     match trace_octets(alloc, interface, op, side, given, order, input) {

@@ -2,7 +2,7 @@
 ghost use Rattle.std.specs.Prelude.{◌≡◌, ◌<◌, ◌≤◌, length, Some, IfOk, IfErr};
 ghost use Rattle.nd_types.specs.declared.types.Operation.{Operation};
 ghost use Rattle.nd_types.specs.Roots.{operation_named};
-ghost use Rattle.nd_base.specs.Over.{files_seen};
+ghost use Rattle.nd_base.specs.Over.{files_over};
 ghost use Rattle.command_compile.specs.Compiled.{AsksFiles};
 ghost use Rattle.command_line.specs.Commands.{subject_of};
 ghost use Rattle.dceidl.specs.Ready.{IsFound, IsReadyCause, IsNotFound};
@@ -28,16 +28,16 @@ pub(crate) fn make_ready<F: Files>(
     of: Subject<'_>,
     files: &mut F,
 ) -> Result<Ready, Refusal>
-    ensures asked { AsksFiles (files_seen F.held F.absences F.faults F.asked files.old files.new)
+    ensures asked { AsksFiles (files_over F.seen files.old files.new)
         (Some (record { idl = (subject_of of.entry).idl; acf = (subject_of of.entry).acf })) }
     ensures ready { IfOk result (λ r. (o : Operation)
-        × IsFound (files_seen F.held F.absences F.faults F.asked files.old files.new) (subject_of of.entry) r.interface r.number o) }
+        × IsFound (files_over F.seen files.old files.new) (subject_of of.entry) r.interface r.number o) }
     ensures known { IfOk result (λ r. r.number < length r.interface.operations) }
     ensures side { IfOk result (λ r. r.side ≡ (subject_of of.entry).side) }
-    ensures refused { IfErr result (IsReadyCause (files_seen F.held F.absences F.faults F.asked files.old files.new) (subject_of of.entry)) }
-    ensures same { F.held files.new ≡ F.held files.old }
-    ensures later { F.faults files.old ≤ F.faults files.new }
-    ensures absences_later { F.absences files.old ≤ F.absences files.new }
+    ensures refused { IfErr result (IsReadyCause (files_over F.seen files.old files.new) (subject_of of.entry)) }
+    ensures same { (F.seen files.new).held ≡ (F.seen files.old).held }
+    ensures later { (F.seen files.old).faults ≤ (F.seen files.new).faults }
+    ensures absences_later { (F.seen files.old).absences ≤ (F.seen files.new).absences }
 {
     let interface = compile(alloc, of.idl, of.acf, files)?;
     find(interface, of.op, of.side)

@@ -1,6 +1,6 @@
 // The top call with a stock: `session` runs a script over it, and all other words are a command line of `run`.
 ghost use Rattle.std.specs.Prelude.{◌≡◌, ◌≢◌, ◌⊎◌, ℕ, List, [], ◌∷◌, true, false};
-ghost use Rattle.nd_base.specs.Over.{Rose, files_seen, source_seen, sink_seen, AreUntouched};
+ghost use Rattle.nd_base.specs.Over.{Rose, files_over, source_over, sink_over, AreUntouched};
 ghost use Rattle.ndr_pipe.specs.Ends.{AreOpen, AreAsBefore, ends_over, ends_seen};
 ghost use Rattle.ctx_session.specs.Session.{AreFresh};
 ghost use Rattle.ctx_session.specs.Stocked.{fresh_seen};
@@ -20,7 +20,7 @@ use command_refusals::Status;
 use command_session::session;
 use ctx_session::Stock;
 use nd_base::{Files, Sink, Source};
-use ndr_pipe::PipeEnds;
+use ndr_pipe::{BoxedEnd, PipeEnd, PipeEnds};
 use std::alloc::Global;
 
 /// Runs a command line with a stock of resources, and returns the exit status.
@@ -39,50 +39,50 @@ pub fn run_with<F: Files, S: Source, K: Sink, N: Sink>(
     ends: &mut PipeEnds,
     stock: &mut Stock,
 ) -> Status
-    requires open { AreOpen (ends_seen seen ends.old) }
+    requires open { AreOpen (ends_seen ⟦<BoxedEnd as PipeEnd>⟧.seen ends.old) }
     requires fresh { AreFresh (fresh_seen shows stock.old) }
     // Other words than `session`.
     ensures others { is_session words.now ≡ false → IsRun words.now
-        (seen_over (files_seen F.held F.absences F.faults F.asked files.old files.new) (source_seen S.left S.ended S.faults input.old input.new)
-        (ends_over seen ends.old ends.new))
-        (sink_seen K.written K.faults out.old out.new)
-        (sink_seen N.written N.faults notes.old notes.new) result }
+        (seen_over (files_over F.seen files.old files.new) (source_over S.seen input.old input.new)
+        (ends_over ⟦<BoxedEnd as PipeEnd>⟧.seen ends.old ends.new))
+        (sink_over K.seen out.old out.new)
+        (sink_over N.seen notes.old notes.new) result }
     ensures others_stock { is_session words.now ≡ false → IsUntouched (stock_over shows stock.old stock.new) }
     // The one word `session`: what it touches, and what it comes to.
-    ensures session_files { is_session words.now ≡ true → AreUntouched (files_seen F.held F.absences F.faults F.asked files.old files.new) }
-    ensures session_ends { is_session words.now ≡ true → AreAsBefore (ends_over seen ends.old ends.new) }
+    ensures session_files { is_session words.now ≡ true → AreUntouched (files_over F.seen files.old files.new) }
+    ensures session_ends { is_session words.now ≡ true → AreAsBefore (ends_over ⟦<BoxedEnd as PipeEnd>⟧.seen ends.old ends.new) }
     ensures session { is_session words.now ≡ true
-        → HasSession (session_over (source_seen S.left S.ended S.faults input.old input.new) (stock_over shows stock.old stock.new))
-        (sink_seen K.written K.faults out.old out.new)
-        (sink_seen N.written N.faults notes.old notes.new) result }
+        → HasSession (session_over (source_over S.seen input.old input.new) (stock_over shows stock.old stock.new))
+        (sink_over K.seen out.old out.new)
+        (sink_over N.seen notes.old notes.new) result }
     // What each status of a session says.
     ensures session_statuses { is_session words.now ≡ true → IsOneOf (0 ∷ 1 ∷ 3 ∷ 4 ∷ 5 ∷ []) result }
     ensures session_done { is_session words.now ≡ true → result ≡ 0
-        → IsAnswered (session_over (source_seen S.left S.ended S.faults input.old input.new) (stock_over shows stock.old stock.new))
-        (sink_seen K.written K.faults out.old out.new)
-        (sink_seen N.written N.faults notes.old notes.new) }
+        → IsAnswered (session_over (source_over S.seen input.old input.new) (stock_over shows stock.old stock.new))
+        (sink_over K.seen out.old out.new)
+        (sink_over N.seen notes.old notes.new) }
     ensures session_refused { is_session words.now ≡ true → result ≢ 0 → result ≢ 4
-        → IsRefusedWith (session_over (source_seen S.left S.ended S.faults input.old input.new) (stock_over shows stock.old stock.new))
-        (sink_seen K.written K.faults out.old out.new)
-        (sink_seen N.written N.faults notes.old notes.new) result }
+        → IsRefusedWith (session_over (source_over S.seen input.old input.new) (stock_over shows stock.old stock.new))
+        (sink_over K.seen out.old out.new)
+        (sink_over N.seen notes.old notes.new) result }
     ensures session_write { is_session words.now ≡ true → result ≡ 4
-        → IsCutShort (session_over (source_seen S.left S.ended S.faults input.old input.new) (stock_over shows stock.old stock.new))
-        (sink_seen K.written K.faults out.old out.new)
-        (sink_seen N.written N.faults notes.old notes.new)
-        ⊎ IsUnreported (session_over (source_seen S.left S.ended S.faults input.old input.new) (stock_over shows stock.old stock.new))
-        (sink_seen K.written K.faults out.old out.new)
-        (sink_seen N.written N.faults notes.old notes.new) }
+        → IsCutShort (session_over (source_over S.seen input.old input.new) (stock_over shows stock.old stock.new))
+        (sink_over K.seen out.old out.new)
+        (sink_over N.seen notes.old notes.new)
+        ⊎ IsUnreported (session_over (source_over S.seen input.old input.new) (stock_over shows stock.old stock.new))
+        (sink_over K.seen out.old out.new)
+        (sink_over N.seen notes.old notes.new) }
     ensures session_unfailed { is_session words.now ≡ true
-        → HasNotFailed (session_over (source_seen S.left S.ended S.faults input.old input.new) (stock_over shows stock.old stock.new))
-        (sink_seen K.written K.faults out.old out.new)
-        (sink_seen N.written N.faults notes.old notes.new) → IsOneOf (0 ∷ 1 ∷ 5 ∷ []) result }
+        → HasNotFailed (session_over (source_over S.seen input.old input.new) (stock_over shows stock.old stock.new))
+        (sink_over K.seen out.old out.new)
+        (sink_over N.seen notes.old notes.new) → IsOneOf (0 ∷ 1 ∷ 5 ∷ []) result }
     // Which of these comes, where the octets of the input are known and no fetch fails, and notes do not.
     ensures session_complete { is_session words.now ≡ true → (octets : List ℕ)
-        → AreGiven (source_seen S.left S.ended S.faults input.old input.new) octets → IsScript octets
-        → (Rose (N.faults notes.old) (N.faults notes.new) → ⊥) → IsCompleted (sink_seen K.written K.faults out.old out.new) result }
+        → AreGiven (source_over S.seen input.old input.new) octets → IsScript octets
+        → (Rose (N.seen notes.old).faults (N.seen notes.new).faults → ⊥) → IsCompleted (sink_over K.seen out.old out.new) result }
     ensures session_exactly { is_session words.now ≡ true → (octets : List ℕ) (r : Why)
-        → AreGiven (source_seen S.left S.ended S.faults input.old input.new) octets → IsNoScript octets r
-        → (Rose (N.faults notes.old) (N.faults notes.new) → ⊥) → Refuses (sink_seen N.written N.faults notes.old notes.new) result r }
+        → AreGiven (source_over S.seen input.old input.new) octets → IsNoScript octets r
+        → (Rose (N.seen notes.old).faults (N.seen notes.new).faults → ⊥) → Refuses (sink_over N.seen notes.old notes.new) result r }
 {
     if words.is_session() {
         session(alloc, input, out, notes, stock)
@@ -101,12 +101,12 @@ fn run_line<F: Files, S: Source, K: Sink, N: Sink>(
     notes: &mut N,
     ends: &mut PipeEnds,
 ) -> Status
-    requires open { AreOpen (ends_seen seen ends.old) }
+    requires open { AreOpen (ends_seen ⟦<BoxedEnd as PipeEnd>⟧.seen ends.old) }
     ensures { IsRun words.now
-        (seen_over (files_seen F.held F.absences F.faults F.asked files.old files.new) (source_seen S.left S.ended S.faults input.old input.new)
-        (ends_over seen ends.old ends.new))
-        (sink_seen K.written K.faults out.old out.new)
-        (sink_seen N.written N.faults notes.old notes.new) result }
+        (seen_over (files_over F.seen files.old files.new) (source_over S.seen input.old input.new)
+        (ends_over ⟦<BoxedEnd as PipeEnd>⟧.seen ends.old ends.new))
+        (sink_over K.seen out.old out.new)
+        (sink_over N.seen notes.old notes.new) result }
 {
     run(alloc, words, files, input, out, notes, ends)
 }

@@ -2,7 +2,7 @@
 ghost use Rattle.std.specs.Prelude.{◌≡◌, ◌≢◌, ◌⊎◌, [], ◌∷◌, codes, false, map, Some, None, IfOk, option_map};
 ghost use Rattle.std.specs.String.{string_bytes};
 ghost use Rattle.std.specs.Io.KnownBytes.{Appends};
-ghost use Rattle.nd_base.specs.Over.{Rose, files_seen, source_seen, sink_seen};
+ghost use Rattle.nd_base.specs.Over.{Rose, files_over, source_over, sink_over};
 ghost use Rattle.command_refusals.specs.declared.refusal.Refusal.{Refusal as Why};
 ghost use Rattle.ndr_pipe.specs.Ends.{AreOpen, ends_over, ends_seen};
 ghost use Rattle.dceidl.specs.Asked.{Asks, AsksFor, seen_over};
@@ -23,7 +23,7 @@ use command_refusals::{Refusal, Status, line, status};
 use command_streams::{Outcome, deliver};
 use command_why::{Explained, explain};
 use nd_base::{Files, Memory, Octets, Sink, Source};
-use ndr_pipe::{Ends, PipeEnd, PipeEnds};
+use ndr_pipe::{BoxedEnd, Ends, PipeEnd, PipeEnds};
 use std::alloc::Global;
 
 /// The command line is not valid.
@@ -69,64 +69,65 @@ pub fn run<F: Files, S: Source, K: Sink, N: Sink>(
     notes: &mut N,
     ends: &mut PipeEnds,
 ) -> Status
-    requires open { AreOpen (ends_seen seen ends.old) }
+    requires open { AreOpen (ends_seen ⟦<BoxedEnd as PipeEnd>⟧.seen ends.old) }
     ensures whole { HasRun words.now
-        (seen_over (files_seen F.held F.absences F.faults F.asked files.old files.new) (source_seen S.left S.ended S.faults input.old input.new)
-        (ends_over seen ends.old ends.new))
-        (sink_seen K.written K.faults out.old out.new)
-        (sink_seen N.written N.faults notes.old notes.new) result }
+        (seen_over (files_over F.seen files.old files.new) (source_over S.seen input.old input.new)
+        (ends_over ⟦<BoxedEnd as PipeEnd>⟧.seen ends.old ends.new))
+        (sink_over K.seen out.old out.new)
+        (sink_over N.seen notes.old notes.new) result }
     // What a run asks for: files only when they are due and each once (an attribute file that is a file of IDL too is loaded again), the input only
     // if the command reads it.
     ensures asked { Asks
-        (seen_over (files_seen F.held F.absences F.faults F.asked files.old files.new) (source_seen S.left S.ended S.faults input.old input.new)
-        (ends_over seen ends.old ends.new)) (command words.now) }
+        (seen_over (files_over F.seen files.old files.new) (source_over S.seen input.old input.new)
+        (ends_over ⟦<BoxedEnd as PipeEnd>⟧.seen ends.old ends.new)) (command words.now) }
     // What each status says.
     ensures statuses { (c : Wanted) → command words.now ≡ Some c → IsOneOf (statuses_of c) result }
     ensures words { result ≡ 2 → AreUnknown (command words.now) }
     ensures words_exactly { command words.now ≡ None → IsOneOf (2 ∷ 4 ∷ 5 ∷ []) result }
-    ensures words_line { result ≡ 2 → Appends (N.written notes.old) (N.written notes.new) (codes "words refused\n") }
-    ensures read { result ≡ 3 → Rose (S.faults input.old) (S.faults input.new) × ReadsInput (command words.now) }
-    ensures write { result ≡ 4 → Rose (K.faults out.old) (K.faults out.new) ⊎ Rose (N.faults notes.old) (N.faults notes.new) }
-    ensures absent { result ≡ 7 → Rose (F.absences files.old) (F.absences files.new)
-        × IsDueAndMissing (command words.now) (F.held files.old) (sink_seen N.written N.faults notes.old notes.new) }
-    ensures file { result ≡ 9 → Rose (F.faults files.old) (F.faults files.new)
-        × IsDueAndReported (command words.now) (F.held files.old) (sink_seen N.written N.faults notes.old notes.new) }
-    ensures end { result ≡ 8 → IsEndReported (ends_over seen ends.old ends.new) (sink_seen N.written N.faults notes.old notes.new) }
-    ensures quiet { result ≡ 0 → N.written notes.new ≡ N.written notes.old }
-    ensures nothing_given { tells_refused (command words.now) ≡ false → result ≢ 0 → result ≢ 4 → K.written out.new ≡ K.written out.old }
+    ensures words_line { result ≡ 2 → Appends (N.seen notes.old).written (N.seen notes.new).written (codes "words refused\n") }
+    ensures read { result ≡ 3 → Rose (S.seen input.old).faults (S.seen input.new).faults × ReadsInput (command words.now) }
+    ensures write { result ≡ 4 → Rose (K.seen out.old).faults (K.seen out.new).faults ⊎ Rose (N.seen notes.old).faults (N.seen notes.new).faults }
+    ensures absent { result ≡ 7 → Rose (F.seen files.old).absences (F.seen files.new).absences
+        × IsDueAndMissing (command words.now) (F.seen files.old).held (sink_over N.seen notes.old notes.new) }
+    ensures file { result ≡ 9 → Rose (F.seen files.old).faults (F.seen files.new).faults
+        × IsDueAndReported (command words.now) (F.seen files.old).held (sink_over N.seen notes.old notes.new) }
+    ensures end { result ≡ 8 → IsEndReported (ends_over ⟦<BoxedEnd as PipeEnd>⟧.seen ends.old ends.new) (sink_over N.seen notes.old notes.new) }
+    ensures quiet { result ≡ 0 → (N.seen notes.new).written ≡ (N.seen notes.old).written }
+    ensures nothing_given { tells_refused (command words.now) ≡ false → result ≢ 0 → result ≢ 4
+        → (K.seen out.new).written ≡ (K.seen out.old).written }
     ensures unfailed { HasNotFailed
-        (seen_over (files_seen F.held F.absences F.faults F.asked files.old files.new) (source_seen S.left S.ended S.faults input.old input.new)
-        (ends_over seen ends.old ends.new))
-        (sink_seen K.written K.faults out.old out.new)
-        (sink_seen N.written N.faults notes.old notes.new) → IsOneOf (0 ∷ 1 ∷ 2 ∷ 5 ∷ 6 ∷ []) result }
+        (seen_over (files_over F.seen files.old files.new) (source_over S.seen input.old input.new)
+        (ends_over ⟦<BoxedEnd as PipeEnd>⟧.seen ends.old ends.new))
+        (sink_over K.seen out.old out.new)
+        (sink_over N.seen notes.old notes.new) → IsOneOf (0 ∷ 1 ∷ 2 ∷ 5 ∷ 6 ∷ []) result }
     // What a command comes to: it is done, or it is refused for a cause, under its status and with its line.
     ensures done { (c : Wanted) → command words.now ≡ Some c → result ≡ 0 → IsDone
-        (seen_over (files_seen F.held F.absences F.faults F.asked files.old files.new) (source_seen S.left S.ended S.faults input.old input.new)
-        (ends_over seen ends.old ends.new))
-        (sink_seen K.written K.faults out.old out.new)
-        (sink_seen N.written N.faults notes.old notes.new) c }
+        (seen_over (files_over F.seen files.old files.new) (source_over S.seen input.old input.new)
+        (ends_over ⟦<BoxedEnd as PipeEnd>⟧.seen ends.old ends.new))
+        (sink_over K.seen out.old out.new)
+        (sink_over N.seen notes.old notes.new) c }
     ensures refused { (c : Wanted) → command words.now ≡ Some c → result ≢ 0 → result ≢ 4 → result ≢ 5 → IsRefused
-        (seen_over (files_seen F.held F.absences F.faults F.asked files.old files.new) (source_seen S.left S.ended S.faults input.old input.new)
-        (ends_over seen ends.old ends.new))
-        (sink_seen K.written K.faults out.old out.new)
-        (sink_seen N.written N.faults notes.old notes.new) c result }
+        (seen_over (files_over F.seen files.old files.new) (source_over S.seen input.old input.new)
+        (ends_over ⟦<BoxedEnd as PipeEnd>⟧.seen ends.old ends.new))
+        (sink_over K.seen out.old out.new)
+        (sink_over N.seen notes.old notes.new) c result }
     // Which of these comes, where no load fails and notes do not.
     ensures complete { (c : Wanted) → command words.now ≡ Some c
         → IsSound
-        (seen_over (files_seen F.held F.absences F.faults F.asked files.old files.new) (source_seen S.left S.ended S.faults input.old input.new)
-        (ends_over seen ends.old ends.new)) (sink_seen N.written N.faults notes.old notes.new)
+        (seen_over (files_over F.seen files.old files.new) (source_over S.seen input.old input.new)
+        (ends_over ⟦<BoxedEnd as PipeEnd>⟧.seen ends.old ends.new)) (sink_over N.seen notes.old notes.new)
         → CanBeDone
-        (seen_over (files_seen F.held F.absences F.faults F.asked files.old files.new) (source_seen S.left S.ended S.faults input.old input.new)
-        (ends_over seen ends.old ends.new)) c
-        → IsCompleted (sink_seen K.written K.faults out.old out.new) result }
+        (seen_over (files_over F.seen files.old files.new) (source_over S.seen input.old input.new)
+        (ends_over ⟦<BoxedEnd as PipeEnd>⟧.seen ends.old ends.new)) c
+        → IsCompleted (sink_over K.seen out.old out.new) result }
     ensures exactly { (c : Wanted) (r : Why) → command words.now ≡ Some c
         → IsSound
-        (seen_over (files_seen F.held F.absences F.faults F.asked files.old files.new) (source_seen S.left S.ended S.faults input.old input.new)
-        (ends_over seen ends.old ends.new)) (sink_seen N.written N.faults notes.old notes.new)
+        (seen_over (files_over F.seen files.old files.new) (source_over S.seen input.old input.new)
+        (ends_over ⟦<BoxedEnd as PipeEnd>⟧.seen ends.old ends.new)) (sink_over N.seen notes.old notes.new)
         → MustBeRefused
-        (seen_over (files_seen F.held F.absences F.faults F.asked files.old files.new) (source_seen S.left S.ended S.faults input.old input.new)
-        (ends_over seen ends.old ends.new)) c r
-        → Refuses c (sink_seen N.written N.faults notes.old notes.new) result r }
+        (seen_over (files_over F.seen files.old files.new) (source_over S.seen input.old input.new)
+        (ends_over ⟦<BoxedEnd as PipeEnd>⟧.seen ends.old ends.new)) c r
+        → Refuses c (sink_over N.seen notes.old notes.new) result r }
 {
     run_over(alloc, words, files, input, out, notes, ends)
 }
@@ -143,10 +144,10 @@ fn run_over<F: Files, S: Source, K: Sink, N: Sink, E: PipeEnd>(
 ) -> Status
     requires open { AreOpen (ends_seen E.seen ends.old) }
     ensures { HasRun words.now
-        (seen_over (files_seen F.held F.absences F.faults F.asked files.old files.new) (source_seen S.left S.ended S.faults input.old input.new)
+        (seen_over (files_over F.seen files.old files.new) (source_over S.seen input.old input.new)
         (ends_over E.seen ends.old ends.new))
-        (sink_seen K.written K.faults out.old out.new)
-        (sink_seen N.written N.faults notes.old notes.new) result }
+        (sink_over K.seen out.old out.new)
+        (sink_over N.seen notes.old notes.new) result }
 {
     let outcome = answer(alloc, words, files, input, ends);
     deliver(&outcome, out, notes)
@@ -162,10 +163,10 @@ fn answer<F: Files, S: Source, E: PipeEnd>(
 ) -> Outcome
     requires open { AreOpen (ends_seen E.seen ends.old) }
     ensures asked { Asks
-        (seen_over (files_seen F.held F.absences F.faults F.asked files.old files.new) (source_seen S.left S.ended S.faults input.old input.new)
+        (seen_over (files_over F.seen files.old files.new) (source_over S.seen input.old input.new)
         (ends_over E.seen ends.old ends.new)) (command words.now) }
     ensures outcome { IsOutcome
-        (seen_over (files_seen F.held F.absences F.faults F.asked files.old files.new) (source_seen S.left S.ended S.faults input.old input.new)
+        (seen_over (files_over F.seen files.old files.new) (source_over S.seen input.old input.new)
         (ends_over E.seen ends.old ends.new)) (command words.now) result }
 {
     match words.why() {
@@ -204,10 +205,10 @@ fn performed<F: Files, S: Source, E: PipeEnd>(
 ) -> Outcome
     requires open { AreOpen (ends_seen E.seen ends.old) }
     ensures asked { Asks
-        (seen_over (files_seen F.held F.absences F.faults F.asked files.old files.new) (source_seen S.left S.ended S.faults input.old input.new)
+        (seen_over (files_over F.seen files.old files.new) (source_over S.seen input.old input.new)
         (ends_over E.seen ends.old ends.new)) (counted_command words.now) }
     ensures outcome { IsOutcome
-        (seen_over (files_seen F.held F.absences F.faults F.asked files.old files.new) (source_seen S.left S.ended S.faults input.old input.new)
+        (seen_over (files_over F.seen files.old files.new) (source_over S.seen input.old input.new)
         (ends_over E.seen ends.old ends.new)) (counted_command words.now) result }
 {
     match words.command() {
@@ -227,10 +228,10 @@ fn performed_command<F: Files, S: Source, E: PipeEnd>(
     requires open { AreOpen (ends_seen E.seen ends.old) }
     requires formed { IsWellFormed command }
     ensures asked { AsksFor
-        (seen_over (files_seen F.held F.absences F.faults F.asked files.old files.new) (source_seen S.left S.ended S.faults input.old input.new)
+        (seen_over (files_over F.seen files.old files.new) (source_over S.seen input.old input.new)
         (ends_over E.seen ends.old ends.new)) (command_of command.entry) }
     ensures outcome { IsCommandOutcome
-        (seen_over (files_seen F.held F.absences F.faults F.asked files.old files.new) (source_seen S.left S.ended S.faults input.old input.new)
+        (seen_over (files_over F.seen files.old files.new) (source_over S.seen input.old input.new)
         (ends_over E.seen ends.old ends.new)) (command_of command.entry) result }
 {
     match asked_trace(command) {
@@ -254,10 +255,10 @@ fn performed_plainly<F: Files, S: Source, E: PipeEnd>(
     requires formed { IsWellFormed command }
     requires plain { tells (command_of command) ≡ false }
     ensures asked { AsksFor
-        (seen_over (files_seen F.held F.absences F.faults F.asked files.old files.new) (source_seen S.left S.ended S.faults input.old input.new)
+        (seen_over (files_over F.seen files.old files.new) (source_over S.seen input.old input.new)
         (ends_over E.seen ends.old ends.new)) (command_of command.entry) }
     ensures outcome { IsCommandOutcome
-        (seen_over (files_seen F.held F.absences F.faults F.asked files.old files.new) (source_seen S.left S.ended S.faults input.old input.new)
+        (seen_over (files_over F.seen files.old files.new) (source_over S.seen input.old input.new)
         (ends_over E.seen ends.old ends.new)) (command_of command.entry) result }
 {
     match perform(alloc, command, files, input, ends) {

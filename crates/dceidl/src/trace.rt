@@ -1,7 +1,7 @@
 // `trace`: octets are explained, up to the first fault if they are refused.
 ghost use Rattle.std.specs.Prelude.{◌≡◌, ◌<◌, ℕ, List, Option, false, length, Some, option_map, IfOk, IfErr, IfSome, IfNone};
 ghost use Rattle.std.specs.List.{slice_get};
-ghost use Rattle.nd_base.specs.Over.{FilesSeen, files_seen, source_seen};
+ghost use Rattle.nd_base.specs.Over.{FilesOver, files_over, source_over};
 ghost use Rattle.nd_types.specs.declared.types.Operation.{Operation};
 ghost use Rattle.nd_value.specs.Fitting.{setting_beside};
 ghost use Rattle.nd_value.specs.Request.{IsRequestOf};
@@ -84,10 +84,10 @@ pub(crate) fn traced<F: Files, S: Source>(
     input: &mut S,
 ) -> Outcome
     requires judged { IsJudged tracing.of.side tracing.given }
-    ensures asked { AsksFilesOf (files_seen F.held F.absences F.faults F.asked files.old files.new)
+    ensures asked { AsksFilesOf (files_over F.seen files.old files.new)
         (Values (Read Trace tracing.entry.order) (subject_of tracing.entry.of) (option_map (λ g. g.now) tracing.entry.given)) }
     ensures outcome { (e : EndsSeen) → AreAsBefore e → IsCommandOutcome
-        (seen_over (files_seen F.held F.absences F.faults F.asked files.old files.new) (source_seen S.left S.ended S.faults input.old input.new) e)
+        (seen_over (files_over F.seen files.old files.new) (source_over S.seen input.old input.new) e)
         (Values (Read Trace tracing.entry.order) (subject_of tracing.entry.of) (option_map (λ g. g.now) tracing.entry.given)) result }
 {
     match prepare(alloc, tracing.of, tracing.given, files) {
@@ -144,12 +144,12 @@ fn trace_prepared<S: Source>(
 ) -> Result<Octets, Stopped>
     requires known { prepared.ready.number < length prepared.ready.interface.operations }
     requires request { IsRequestOf prepared.ready.interface prepared.ready.number prepared.ready.side prepared.request }
-    ensures made { (f : FilesSeen) (of : words.Subject) (given : Option (List ℕ)) → IsPrepared f of given prepared
-        → IfOk result (λ made. (e : EndsSeen) → IsMade (seen_over f (source_seen S.left S.ended S.faults input.old input.new) e)
+    ensures made { (f : FilesOver) (of : words.Subject) (given : Option (List ℕ)) → IsPrepared f of given prepared
+        → IfOk result (λ made. (e : EndsSeen) → IsMade (seen_over f (source_over S.seen input.old input.new) e)
         (Values (Read Trace order) of given) made) }
-    ensures stopped { (f : FilesSeen) (of : words.Subject) (given : Option (List ℕ)) → IsPrepared f of given prepared
+    ensures stopped { (f : FilesOver) (of : words.Subject) (given : Option (List ℕ)) → IsPrepared f of given prepared
         → IfErr result (λ h. (e : EndsSeen) → AreAsBefore e
-        → IsStoppedCommand (seen_over f (source_seen S.left S.ended S.faults input.old input.new) e) (Values (Read Trace order) of given) h) }
+        → IsStoppedCommand (seen_over f (source_over S.seen input.old input.new) e) (Values (Read Trace order) of given) h) }
 {
     let Prepared { ready, request } = prepared;
     match request {
@@ -169,10 +169,10 @@ fn trace_values<S: Source>(
     requires known { ready.now.number < length ready.now.interface.operations }
     requires request { IsRequestOf ready.now.interface ready.now.number ready.now.side (option_map (λ f. f.now) given) }
     ensures made { (o : Operation) → slice_get ready.now.interface.operations ready.now.number ≡ Some o
-        → IfOk result (λ made. (e : EndsSeen) → IsMadeOf (source_seen S.left S.ended S.faults input.old input.new) e (Read Trace order)
+        → IfOk result (λ made. (e : EndsSeen) → IsMadeOf (source_over S.seen input.old input.new) e (Read Trace order)
         (setting_beside ready.now.interface o ready.now.side (option_map (λ f. f.now.graph) given.entry)) made) }
     ensures stopped { (o : Operation) → slice_get ready.now.interface.operations ready.now.number ≡ Some o
-        → IfErr result (IsStoppedTask (source_seen S.left S.ended S.faults input.old input.new) order
+        → IfErr result (IsStoppedTask (source_over S.seen input.old input.new) order
         (setting_beside ready.now.interface o ready.now.side (option_map (λ f. f.now.graph) given.entry))) }
 {
     match order {
@@ -199,10 +199,10 @@ fn trace_labelled<S: Source>(
     requires known { ready.now.number < length ready.now.interface.operations }
     requires request { IsRequestOf ready.now.interface ready.now.number ready.now.side (option_map (λ f. f.now) given) }
     ensures made { (o : Operation) → slice_get ready.now.interface.operations ready.now.number ≡ Some o
-        → IfOk result (λ made. (e : EndsSeen) → IsMadeOf (source_seen S.left S.ended S.faults input.old input.new) e (Read Trace Label)
+        → IfOk result (λ made. (e : EndsSeen) → IsMadeOf (source_over S.seen input.old input.new) e (Read Trace Label)
         (setting_beside ready.now.interface o ready.now.side (option_map (λ f. f.now.graph) given.entry)) made) }
     ensures stopped { (o : Operation) → slice_get ready.now.interface.operations ready.now.number ≡ Some o
-        → IfErr result (IsStoppedTask (source_seen S.left S.ended S.faults input.old input.new) Label
+        → IfErr result (IsStoppedTask (source_over S.seen input.old input.new) Label
         (setting_beside ready.now.interface o ready.now.side (option_map (λ f. f.now.graph) given.entry))) }
 {
     match take_label(input) {

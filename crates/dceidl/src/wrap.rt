@@ -1,6 +1,6 @@
 // The text of the input is encoded, and the octets of its values are written as the stub data of fragments.
 ghost use Rattle.std.specs.Prelude.{◌≡◌, ◌≤◌, ◌<◌, ◌^◌, length, Some, IfOk, IfErr};
-ghost use Rattle.nd_base.specs.Over.{files_seen, source_seen};
+ghost use Rattle.nd_base.specs.Over.{files_over, source_over};
 ghost use Rattle.nd_base.specs.declared.TheConstants.{STREAM_LIMIT};
 ghost use Rattle.command_compile.specs.Compiled.{AsksFiles};
 ghost use Rattle.command_line.specs.Commands.{subject_of};
@@ -29,12 +29,12 @@ pub(crate) fn wrap<F: Files, S: Source>(
     input: &mut S,
 ) -> Result<Octets, Refusal>
     requires { LEAST_MAX ≤ max }
-    ensures asked { AsksFiles (files_seen F.held F.absences F.faults F.asked files.old files.new)
+    ensures asked { AsksFiles (files_over F.seen files.old files.new)
         (Some (record { idl = (subject_of of.entry).idl; acf = (subject_of of.entry).acf })) }
-    ensures done { IfOk result (IsWrapped (files_seen F.held F.absences F.faults F.asked files.old files.new)
-        (source_seen S.left S.ended S.faults input.old input.new) (subject_of of.entry) order call max) }
-    ensures refused { IfErr result (IsNoWrap (files_seen F.held F.absences F.faults F.asked files.old files.new)
-        (source_seen S.left S.ended S.faults input.old input.new) (subject_of of.entry)) }
+    ensures done { IfOk result (IsWrapped (files_over F.seen files.old files.new)
+        (source_over S.seen input.old input.new) (subject_of of.entry) order call max) }
+    ensures refused { IfErr result (IsNoWrap (files_over F.seen files.old files.new)
+        (source_over S.seen input.old input.new) (subject_of of.entry)) }
 {
     let ready = make_ready(alloc, of, files)?;
     let stub = encode_input(

@@ -29,8 +29,8 @@ pub struct StandardInput {
 impl StandardInput {
     /// The standard input of the runtime. It takes memory for two blocks; out of memory is the only error.
     pub fn new(alloc: Global, stdin: Stdin) -> Result<StandardInput, Memory>
-        ensures faults { IfOk result (λ s. ⟦<StandardInput as Source>⟧.faults s ≡ 0) }
-        ensures ended { IfOk result (λ s. ⟦<StandardInput as Source>⟧.ended s ≡ false) }
+        ensures faults { IfOk result (λ s. (⟦<StandardInput as Source>⟧.seen s).faults ≡ 0) }
+        ensures ended { IfOk result (λ s. (⟦<StandardInput as Source>⟧.seen s).ended ≡ false) }
     {
         Ok(StandardInput {
             first: locked(alloc, stdin)?,
@@ -134,11 +134,7 @@ impl StandardInput {
 }
 
 impl Source for StandardInput {
-    ghost left = { λ _. None };
-
-    ghost ended = { λ s. s.ended };
-
-    ghost faults = { λ s. s.faults };
+    ghost seen = { λ s. record { left = None; ended = s.ended; faults = s.faults } };
 
     fn fetch(&mut self, buf: &mut [u8]) -> Result<usize, ReadFailed> {
         if self.ended || buf.is_empty() {

@@ -1,5 +1,6 @@
 -- For the code: what a part of a walk does to the whole of it. No definition of the language stands here.
 use Rattle.std.specs.Prelude.{◌≡◌, ℕ, ◌≤◌, List, ◌++◌, length, Option, Result, Ok, Err, IfErr}
+use Rattle.nd_base.specs.Over.{FilesSeen}
 use Rattle.idl_scope.specs.declared.name_fault.NameFault.{NameFault}
 use Rattle.idl_names.specs.Causes.{IsAbsent, IsFailed}
 use Rattle.idl_names.specs.Walk.{Source, State, Due, Ending, Stopped, Walk, names_of, most_files}
@@ -18,8 +19,8 @@ pub record Point : Type 0 where
   pub faults : ℕ
   pub state : State
 
-abbrev pub point : Option (List ℕ → Option (List ℕ)) → List (List ℕ) → ℕ → ℕ → State → Point
-point held asked absences faults state = record { held = held; asked = asked; absences = absences; faults = faults; state = state }
+abbrev pub point : FilesSeen → State → Point
+point seen state = record { held = seen.held; asked = seen.asked; absences = seen.absences; faults = seen.faults; state = state }
 
 -- At Ok, what ends from the later state with what is left due ends so from the earlier one. At Err the walk ends there.
 abbrev pub Leads : {A : Type 0} → Option (List ℕ → Option (List ℕ)) → State → List Due → State → List Due → Result A NameFault → Type 0

@@ -114,14 +114,14 @@ pub(crate) fn load<F: Files>(
     name: &str,
 ) -> Result<FileTree, NameFault>
     requires { length sources.old < most_files }
-    ensures ok { IfOk result (λ f. IsLoaded (F.held files.old) sources.old name.now sources.new (seen_file f)) }
-    ensures err { IfErr result (IsLoadFault (F.held files.old) sources.old name.now sources.new) }
-    ensures absent { IfErr result (IsAbsent (F.absences files.old) (F.absences files.new)) }
-    ensures failed { IfErr result (IsFailed (F.faults files.old) (F.faults files.new)) }
-    ensures later { F.faults files.old ≤ F.faults files.new }
-    ensures absences_later { F.absences files.old ≤ F.absences files.new }
-    ensures same { F.held files.new ≡ F.held files.old }
-    ensures asked { Asked (F.asked files.old) sources.old (F.asked files.new) sources.new }
+    ensures ok { IfOk result (λ f. IsLoaded (F.seen files.old).held sources.old name.now sources.new (seen_file f)) }
+    ensures err { IfErr result (IsLoadFault (F.seen files.old).held sources.old name.now sources.new) }
+    ensures absent { IfErr result (IsAbsent (F.seen files.old).absences (F.seen files.new).absences) }
+    ensures failed { IfErr result (IsFailed (F.seen files.old).faults (F.seen files.new).faults) }
+    ensures later { (F.seen files.old).faults ≤ (F.seen files.new).faults }
+    ensures absences_later { (F.seen files.old).absences ≤ (F.seen files.new).absences }
+    ensures same { (F.seen files.new).held ≡ (F.seen files.old).held }
+    ensures asked { Asked (F.seen files.old).asked sources.old (F.seen files.new).asked sources.new }
     ensures few { length sources.new ≤ most_files }
     ensures more { length sources.old ≤ length sources.new }
 {

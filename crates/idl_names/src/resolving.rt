@@ -56,9 +56,9 @@ fn import<F: Files>(
     string: &Spelling,
 ) -> Result<(), NameFault>
     requires { length sources.old ≤ most_files }
-    ensures { Went (point (F.held files.old) (F.asked files.old) (F.absences files.old) (F.faults files.old) (seen_state sources.old state.old))
+    ensures { Went (point (F.seen files.old) (seen_state sources.old state.old))
         (load_of file string.now ∷ [])
-        (point (F.held files.new) (F.asked files.new) (F.absences files.new) (F.faults files.new) (seen_state sources.new state.new)) [] result }
+        (point (F.seen files.new) (seen_state sources.new state.new)) [] result }
 {
     let place = Place {
         file,
@@ -87,9 +87,9 @@ fn import_all<F: Files>(
     strings: &[Spelling],
 ) -> Result<(), NameFault>
     requires { length sources.old ≤ most_files }
-    ensures { Went (point (F.held files.old) (F.asked files.old) (F.absences files.old) (F.faults files.old) (seen_state sources.old state.old))
+    ensures { Went (point (F.seen files.old) (seen_state sources.old state.old))
         (map (load_of file) strings.now)
-        (point (F.held files.new) (F.asked files.new) (F.absences files.new) (F.faults files.new) (seen_state sources.new state.new)) [] result }
+        (point (F.seen files.new) (seen_state sources.new state.new)) [] result }
 {
     for string in strings {
         import(alloc, files, sources, state, file, string)?;
@@ -108,9 +108,9 @@ fn imports<F: Files>(
     list: &[Import],
 ) -> Result<(), NameFault>
     requires { length sources.old ≤ most_files }
-    ensures { Went (point (F.held files.old) (F.asked files.old) (F.absences files.old) (F.faults files.old) (seen_state sources.old state.old))
+    ensures { Went (point (F.seen files.old) (seen_state sources.old state.old))
         (map (load_of file) (flat_map (λ m. m.files) (map seen_import list.now)))
-        (point (F.held files.new) (F.asked files.new) (F.absences files.new) (F.faults files.new) (seen_state sources.new state.new)) [] result }
+        (point (F.seen files.new) (seen_state sources.new state.new)) [] result }
 {
     for one in list {
         import_all(alloc, files, sources, state, file, one.files.as_slice())?;
@@ -128,9 +128,9 @@ fn whole<F: Files>(
     of: FileTree,
 ) -> Result<(), NameFault>
     requires { length sources.old ≤ most_files }
-    ensures went { Went (point (F.held files.old) (F.asked files.old) (F.absences files.old) (F.faults files.old) (seen_state sources.old state.old))
+    ensures went { Went (point (F.seen files.old) (seen_state sources.old state.old))
         (all_of of.file (seen_tree of.tree))
-        (point (F.held files.new) (F.asked files.new) (F.absences files.new) (F.faults files.new) (seen_state sources.new state.new)) [] result }
+        (point (F.seen files.new) (seen_state sources.new state.new)) [] result }
     ensures ended { OnOk result (has_ended (seen_files state.new.files) of.file ≡ true) }
 {
     let FileTree { file, tree } = of;
@@ -160,15 +160,15 @@ pub fn resolve<F: Files>(
     tree: Tree,
 ) -> Result<Scope, NameFault>
     requires { length sources.old ≡ 1 }
-    ensures scope { IfOk result (λ scope. IsResolved (F.held files.old) sources.old (seen_tree tree) (seen_scope sources.new scope)) }
-    ensures fault { IfErr result (IsRefused (F.held files.old) sources.old (seen_tree tree) sources.new) }
-    ensures absent { IfErr result (IsAbsent (F.absences files.old) (F.absences files.new)) }
-    ensures failed { IfErr result (IsFailed (F.faults files.old) (F.faults files.new)) }
-    ensures later { F.faults files.old ≤ F.faults files.new }
-    ensures absences_later { F.absences files.old ≤ F.absences files.new }
-    ensures same { F.held files.new ≡ F.held files.old }
-    ensures asked { AsksAlong (F.held files.old) sources.old (seen_tree tree) (F.asked files.old) (F.asked files.new) }
-    ensures all_asked { F.asked files.new ≡ F.asked files.old ++ names_of (drop (length sources.old) sources.new) }
+    ensures scope { IfOk result (λ scope. IsResolved (F.seen files.old).held sources.old (seen_tree tree) (seen_scope sources.new scope)) }
+    ensures fault { IfErr result (IsRefused (F.seen files.old).held sources.old (seen_tree tree) sources.new) }
+    ensures absent { IfErr result (IsAbsent (F.seen files.old).absences (F.seen files.new).absences) }
+    ensures failed { IfErr result (IsFailed (F.seen files.old).faults (F.seen files.new).faults) }
+    ensures later { (F.seen files.old).faults ≤ (F.seen files.new).faults }
+    ensures absences_later { (F.seen files.old).absences ≤ (F.seen files.new).absences }
+    ensures same { (F.seen files.new).held ≡ (F.seen files.old).held }
+    ensures asked { AsksAlong (F.seen files.old).held sources.old (seen_tree tree) (F.seen files.old).asked (F.seen files.new).asked }
+    ensures all_asked { (F.seen files.new).asked ≡ (F.seen files.old).asked ++ names_of (drop (length sources.old) sources.new) }
 {
     let mut state = WalkState {
         files: FileTrees::new(alloc),

@@ -1,7 +1,7 @@
 -- What a compiler of files that it loads answers, over files in memory.
 use mathlib.Core.Path.{fun_ext}
 use Rattle.std.proofs.Common.{◌≡◌, ℕ, ◌≤◌, List, Option, Some, arith, subst}
-use Rattle.nd_base.specs.Over.{Rose, FilesSeen, Count}
+use Rattle.nd_base.specs.Over.{Rose, FilesOver, Count}
 use Rattle.nd_types.specs.declared.interface.Interface.{Interface}
 use Rattle.command_compile.specs.Compiled.{IsCompiled, IsIdlCause}
 use Rattle.command_refusals.specs.declared.refusal.Refusal.{Refusal}
@@ -9,7 +9,7 @@ use Rattle.command_refusals.specs.declared.refusal.Refusal.TheVariants.{Memory, 
 use Rattle.library_interface.specs.CompiledOf.{IsCompiledOf, IsCompileCause}
 
 -- files over a call, of which it is known what they hold, and that none failed
-abbrev pub seen : (List ℕ → Option (List ℕ)) → List (List ℕ) → List (List ℕ) → Count → FilesSeen
+abbrev pub seen : (List ℕ → Option (List ℕ)) → List (List ℕ) → List (List ℕ) → Count → FilesOver
 seen held asked asked_now absences =
     record { held = Some held; asked = asked; asked_now = asked_now; absences = absences; faults = record { before = 0; now = 0 } }
 

@@ -48,13 +48,7 @@ impl Files for LentFiles {
     ghost use Rattle.nd_base.specs.InMemory.{files_absences, files_asked};
     ghost use Rattle.library_interface.specs.Held.{content_under};
 
-    ghost held = { λ f. Some (content_under f) };
-
-    ghost faults = { λ _. 0 };
-
-    ghost absences = { λ f. files_absences f.files };
-
-    ghost asked = { λ f. files_asked f.files };
+    ghost seen = { λ f. record { held = Some (content_under f); absences = files_absences f.files; faults = 0; asked = files_asked f.files } };
 
     #[tactic(auto, using(crate::proofs::Sure::never_failed, crate::proofs::Sure::stays_sure))]
     fn load(&mut self, alloc: Global, name: &str) -> Result<Octets, FileFault> {

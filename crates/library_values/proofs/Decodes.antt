@@ -1,7 +1,7 @@
 -- What a decoder answers of octets that are lent.
 use Rattle.std.proofs.Common.{◌≡◌, ℕ, List, [], Some, sym, subst}
 use Rattle.nd_base.specs.declared.octets.Order.{Order}
-use Rattle.nd_base.specs.Over.{SourceSeen}
+use Rattle.nd_base.specs.Over.{SourceOver}
 use Rattle.nd_base.proofs.Consumed.{rest_of, parts_of, none_left}
 use Rattle.nd_value.specs.declared.value.Graph.{Graph}
 use Rattle.nd_value.specs.Setting.{Setting}
@@ -14,7 +14,7 @@ use Rattle.ndr_decoder_state.specs.declared.fault.DecodeFault.{DecodeFault}
 use Rattle.ndr_decoder_state.specs.declared.fault.DecodeFault.TheVariants as fault
 use Rattle.library_values.specs.Decoded.{IsDecodedOf}
 
-module _ (w : Setting) (order : Order) (octets : List ℕ) (s : SourceSeen) (t : DecodingSeen) (lent : s.left ≡ Some octets) where
+module _ (w : Setting) (order : Order) (octets : List ℕ) (s : SourceOver) (t : DecodingSeen) (lent : s.left ≡ Some octets) where
   pub decoded_is : (taken : ℕ) (g : Graph) → IsDecoded w order s taken g t → IsDecodedOf w order octets taken g
   decoded_is taken g d = record {
     front = d.fetched;

@@ -1,7 +1,7 @@
 // Octets that are fetched as they are wanted.
 ghost use Rattle.std.specs.Prelude.{◌≡◌, ℕ, ◌+◌, ◌<◌, ◌≤◌, ◌^◌, [], ◌++◌, length, take, true, false, Option, List, IfOk, IfErr, OnOk, OnErr, IsErrOf};
 ghost use Rattle.std.specs.Io.KnownBytes.{Consumes, IsAtEnd, Keeps};
-ghost use Rattle.nd_base.specs.Over.{source_seen, HasRisen};
+ghost use Rattle.nd_base.specs.Over.{source_over, HasRisen};
 ghost use Rattle.nd_base.specs.declared.TheConstants.{STREAM_LIMIT};
 ghost use Rattle.nd_base.specs.declared.intake.IntakeFault.TheVariants.{TooLong};
 ghost use Rattle.nd_base.specs.Intake.{IsItemFault, IsGapFault, IsFailed};
@@ -78,10 +78,10 @@ impl Intake {
     #[inline(always)]
     pub fn gap<S: Source>(&mut self, source: &mut S, at: u32, count: u32) -> Result<(), IntakeFault>
         requires small { at + count < 2 ^ 32 }
-        ensures octets { Consumes (S.Source.left source.old) (S.Source.left source.new) self.new }
+        ensures octets { Consumes (S.Source.seen source.old).left (S.Source.seen source.new).left self.new }
         ensures all { IfOk result (λ _. length self.new ≡ count) }
-        ensures fault { IfErr result (IsGapFault (source_seen S.Source.left S.Source.ended S.Source.faults source.old source.new) at count self.new) }
-        ensures later { S.Source.faults source.old ≤ S.Source.faults source.new }
+        ensures fault { IfErr result (IsGapFault (source_over S.Source.seen source.old source.new) at count self.new) }
+        ensures later { (S.Source.seen source.old).faults ≤ (S.Source.seen source.new).faults }
     {
         self.len = 0;
         self.fetch(source, at, count)
@@ -97,13 +97,13 @@ impl Intake {
         count: u32,
     ) -> Result<(), IntakeFault>
         requires small { at ≤ STREAM_LIMIT }
-        ensures octets { Consumes (S.Source.left source.old) (S.Source.left source.new) self.new }
+        ensures octets { Consumes (S.Source.seen source.old).left (S.Source.seen source.new).left self.new }
         ensures all { IfOk result (λ _. length self.new ≡ count) }
         ensures within { IfOk result (λ _. at + count ≤ STREAM_LIMIT) }
         ensures too_long { STREAM_LIMIT < at + count → IsErrOf result TooLong }
         ensures fault { IfErr result
-            (IsItemFault (source_seen S.Source.left S.Source.ended S.Source.faults source.old source.new) at count self.new) }
-        ensures later { S.Source.faults source.old ≤ S.Source.faults source.new }
+            (IsItemFault (source_over S.Source.seen source.old source.new) at count self.new) }
+        ensures later { (S.Source.seen source.old).faults ≤ (S.Source.seen source.new).faults }
     {
         self.len = 0;
         if STREAM_LIMIT - at < count {
@@ -118,11 +118,11 @@ impl Intake {
     #[inline(always)]
     pub fn at_hand<S: Source>(&mut self, source: &mut S, count: u32) -> bool
         requires small { count ≤ PIECE }
-        ensures octets { result ≡ true → Consumes (S.Source.left source.old) (S.Source.left source.new) self.new }
+        ensures octets { result ≡ true → Consumes (S.Source.seen source.old).left (S.Source.seen source.new).left self.new }
         ensures all { result ≡ true → length self.new ≡ count }
-        ensures nothing { result ≡ false → S.Source.left source.new ≡ S.Source.left source.old }
-        ensures ended { result ≡ false → S.Source.ended source.new ≡ S.Source.ended source.old }
-        ensures faults { S.Source.faults source.new ≡ S.Source.faults source.old }
+        ensures nothing { result ≡ false → (S.Source.seen source.new).left ≡ (S.Source.seen source.old).left }
+        ensures ended { result ≡ false → (S.Source.seen source.new).ended ≡ (S.Source.seen source.old).ended }
+        ensures faults { (S.Source.seen source.new).faults ≡ (S.Source.seen source.old).faults }
     {
         self.len = 0;
         if make_room(&mut self.buffer, 0, count as usize).is_err() {
@@ -140,10 +140,10 @@ impl Intake {
     fn fetch<S: Source>(&mut self, source: &mut S, at: u32, count: u32) -> Result<(), IntakeFault>
         requires none { self.old ≡ [] }
         requires small { at + count < 2 ^ 32 }
-        ensures octets { Consumes (S.Source.left source.old) (S.Source.left source.new) self.new }
+        ensures octets { Consumes (S.Source.seen source.old).left (S.Source.seen source.new).left self.new }
         ensures all { IfOk result (λ _. length self.new ≡ count) }
-        ensures fault { IfErr result (IsGapFault (source_seen S.Source.left S.Source.ended S.Source.faults source.old source.new) at count self.new) }
-        ensures later { S.Source.faults source.old ≤ S.Source.faults source.new }
+        ensures fault { IfErr result (IsGapFault (source_over S.Source.seen source.old source.new) at count self.new) }
+        ensures later { (S.Source.seen source.old).faults ≤ (S.Source.seen source.new).faults }
     {
         let mut lacking = count;
         while lacking > 0 {
@@ -163,14 +163,14 @@ impl Intake {
     #[inline(always)]
     fn fetch_some<S: Source>(&mut self, source: &mut S, most: u32) -> Result<u32, IntakeFault>
         requires some { 0 < most }
-        ensures octets { (start : Option (List ℕ)) → Consumes start (S.Source.left source.old) self.old
-            → Consumes start (S.Source.left source.new) self.new }
+        ensures octets { (start : Option (List ℕ)) → Consumes start (S.Source.seen source.old).left self.old
+            → Consumes start (S.Source.seen source.new).left self.new }
         ensures count { IfOk result (λ n. length self.new ≡ length self.old + n) }
         ensures bound { IfOk result (λ n. n ≤ most) }
-        ensures end { IfOk result (λ n. n ≡ 0 → (S.Source.ended source.new ≡ true) × IsAtEnd (S.Source.left source.new)) }
-        ensures fault { IfErr result (IsFailed (source_seen S.Source.left S.Source.ended S.Source.faults source.old source.new)) }
+        ensures end { IfOk result (λ n. n ≡ 0 → ((S.Source.seen source.new).ended ≡ true) × IsAtEnd (S.Source.seen source.new).left) }
+        ensures fault { IfErr result (IsFailed (source_over S.Source.seen source.old source.new)) }
         ensures same { OnErr result (self.new ≡ self.old) }
-        ensures later { S.Source.faults source.old ≤ S.Source.faults source.new }
+        ensures later { (S.Source.seen source.old).faults ≤ (S.Source.seen source.new).faults }
     {
         let room = PIECE.min(most) as usize;
         if make_room(&mut self.buffer, self.len, room).is_err() {
@@ -212,13 +212,13 @@ fn fetch_behind<S: Source>(
     ensures came { IfOk result
         (λ n. (os : List ℕ)
         × ((length os ≡ n)
-        × (Consumes (S.Source.left source.old) (S.Source.left source.new) os × (take (len + n) buffer.new ≡ take len buffer.old ++ os)))) }
+        × (Consumes (S.Source.seen source.old).left (S.Source.seen source.new).left os × (take (len + n) buffer.new ≡ take len buffer.old ++ os)))) }
     ensures bound { IfOk result (λ n. n ≤ room) }
-    ensures end { IfOk result (λ n. n ≡ 0 → (S.Source.ended source.new ≡ true) × IsAtEnd (S.Source.left source.new)) }
-    ensures nothing { OnErr result (Keeps (S.Source.left source.old) (S.Source.left source.new)) }
+    ensures end { IfOk result (λ n. n ≡ 0 → ((S.Source.seen source.new).ended ≡ true) × IsAtEnd (S.Source.seen source.new).left) }
+    ensures nothing { OnErr result (Keeps (S.Source.seen source.old).left (S.Source.seen source.new).left) }
     ensures same { OnErr result (take len buffer.new ≡ take len buffer.old) }
-    ensures failed { OnErr result (HasRisen (source_seen S.Source.left S.Source.ended S.Source.faults source.old source.new).faults) }
-    ensures later { S.Source.faults source.old ≤ S.Source.faults source.new }
+    ensures failed { OnErr result (HasRisen (source_over S.Source.seen source.old source.new).faults) }
+    ensures later { (S.Source.seen source.old).faults ≤ (S.Source.seen source.new).faults }
     ensures wide { length buffer.new ≡ length buffer.old }
 {
     match source.fetch(&mut buffer[len..len + room]) {
@@ -231,10 +231,10 @@ fn fetch_behind<S: Source>(
 #[inline(always)]
 fn fill_front<S: Source>(source: &mut S, buffer: &mut [u8], count: usize) -> bool
     requires within { count ≤ length buffer.old }
-    ensures octets { result ≡ true → Consumes (S.Source.left source.old) (S.Source.left source.new) (take count buffer.new) }
-    ensures nothing { result ≡ false → S.Source.left source.new ≡ S.Source.left source.old }
-    ensures ended { result ≡ false → S.Source.ended source.new ≡ S.Source.ended source.old }
-    ensures faults { S.Source.faults source.new ≡ S.Source.faults source.old }
+    ensures octets { result ≡ true → Consumes (S.Source.seen source.old).left (S.Source.seen source.new).left (take count buffer.new) }
+    ensures nothing { result ≡ false → (S.Source.seen source.new).left ≡ (S.Source.seen source.old).left }
+    ensures ended { result ≡ false → (S.Source.seen source.new).ended ≡ (S.Source.seen source.old).ended }
+    ensures faults { (S.Source.seen source.new).faults ≡ (S.Source.seen source.old).faults }
     ensures wide { length buffer.new ≡ length buffer.old }
 {
     source.fill(&mut buffer[..count])

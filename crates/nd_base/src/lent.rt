@@ -26,11 +26,7 @@ impl<'a> LentSource<'a> {
 impl<'a> Source for LentSource<'a> {
     ghost use Rattle.nd_base.specs.Lent.{lent_left, lent_ended};
 
-    ghost left = { λ s. Some (lent_left s) };
-
-    ghost ended = { lent_ended };
-
-    ghost faults = { λ _. 0 };
+    ghost seen = { λ s. record { left = Some (lent_left s); ended = lent_ended s; faults = 0 } };
 
     #[tactic(auto, using(crate::proofs::Lists::piece_left))]
     fn fetch(&mut self, buf: &mut [u8]) -> Result<usize, ReadFailed> {

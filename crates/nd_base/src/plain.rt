@@ -34,11 +34,7 @@ impl PlainSource {
 impl Source for PlainSource {
     ghost use Rattle.nd_base.specs.Plain.{plain_left, plain_ended};
 
-    ghost left = { λ s. Some (plain_left s) };
-
-    ghost ended = { plain_ended };
-
-    ghost faults = { λ _. 0 };
+    ghost seen = { λ s. record { left = Some (plain_left s); ended = plain_ended s; faults = 0 } };
 
     #[tactic(auto, using(crate::proofs::Lists::piece_left))]
     fn fetch(&mut self, buf: &mut [u8]) -> Result<usize, ReadFailed> {
@@ -71,16 +67,14 @@ pub struct PlainSink;
 impl PlainSink {
     /// The sink. Takes no memory.
     pub fn new() -> PlainSink
-        ensures { ⟦<PlainSink as Sink>⟧.faults result ≡ 0 }
+        ensures { (⟦<PlainSink as Sink>⟧.seen result).faults ≡ 0 }
     {
         PlainSink
     }
 }
 
 impl Sink for PlainSink {
-    ghost written = { λ _. None };
-
-    ghost faults = { λ _. 0 };
+    ghost seen = { λ _. record { written = None; faults = 0 } };
 
     fn put(&mut self, _piece: &[u8]) -> Result<(), WriteFailed> {
         Ok(())

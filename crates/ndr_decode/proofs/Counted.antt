@@ -2,7 +2,7 @@
 -- `k` is how many steps were counted before it, `n` how many cells there were.
 use Rattle.std.proofs.Common.{◌≡◌, ℕ, ◌+◌, List, arith}
 use Rattle.nd_base.specs.declared.octets.Order.{Order}
-use Rattle.nd_base.specs.Over.{SourceSeen}
+use Rattle.nd_base.specs.Over.{SourceOver}
 use Rattle.nd_value.specs.declared.item.Item.{Item}
 use Rattle.nd_value.specs.Setting.{Setting}
 use Rattle.ndr_decoder_state.specs.declared.fault.DecodeFault.{DecodeFault}
@@ -16,7 +16,7 @@ use Rattle.ndr_decode.specs.Streaming.{FaultOf}
 abbrev pub with_steps : ℕ → DecodingSeen → DecodingSeen
 with_steps k t = record { log = t.log; log_now = t.log_now; steps = k; steps_now = t.steps_now }
 
-module _ (w : Setting) (order : Order) (fetched : List ℕ) (noted : List Item) (source : SourceSeen) (t : DecodingSeen) (k n : ℕ) (one : t.steps ≡ k + 1) where
+module _ (w : Setting) (order : Order) (fetched : List ℕ) (noted : List Item) (source : SourceOver) (t : DecodingSeen) (k n : ℕ) (one : t.steps ≡ k + 1) where
   part_counted : (octets : List ℕ) (items : List Item) (n' : ℕ) → TookPart source t (n + 1) octets items n' → TookPart source (with_steps k t) n octets items n'
   part_counted octets items n' p = let a = p.steps in record { left = p.left; logged = p.logged; steps = omega (arith, a, one) }
 

@@ -7,7 +7,7 @@ use Rattle.std.specs.List.{slice_get}
 use Rattle.std.proofs.lemmas.List.{length-map}
 use Rattle.std.proofs.lemmas.Option.{same_Some}
 use Rattle.nd_base.specs.declared.octets.Order.{Order}
-use Rattle.nd_base.specs.Over.{Count, HasRisen, SourceSeen}
+use Rattle.nd_base.specs.Over.{Count, HasRisen, SourceOver}
 use Rattle.nd_types.specs.declared.types.Operation.{Operation}
 use Rattle.nd_types.specs.declared.interface.Interface.{Interface}
 use Rattle.nd_types.specs.declared.types.Side.{Side}
@@ -99,7 +99,7 @@ same_fault (Ok a) e k is h = absurd is
 same_fault (Err j) e k is h = (let x : j ≡ k = cc in sym is ∙ x)
 
 -- a fault of the source has its cause
-pub source_failed : (w : Setting) (order : Order) (n : ℕ) (c : SourceSeen) (u : DecodingSeen) (e : DecodeFault) → e ≡ fault.ReadFault → FaultOf the_stream w order [] [] n c u e → HasRisen c.faults
+pub source_failed : (w : Setting) (order : Order) (n : ℕ) (c : SourceOver) (u : DecodingSeen) (e : DecodeFault) → e ≡ fault.ReadFault → FaultOf the_stream w order [] [] n c u e → HasRisen c.faults
 source_failed w order n c u e is x = (subst (λ (k : DecodeFault). FaultOf the_stream w order [] [] n c u k) is x).1
 
 -- ## A call
@@ -130,16 +130,16 @@ module _ (plan : Plan) (number : ℕ) (way : Side) (q : Option Graph) (o : Opera
         (cut_off_here left ended faults log steps w legal order [] [] 0 (between_of x) (read_start w order []) [] [] (before_pipes (root_list w)) 0 (sym (ap length begins.cells))
         (stream_begins w legal order (between_of x) begins)))
 
-    pub side_fails : (c : SourceSeen) (u : DecodingSeen) (z : Stream) (e : DecodeFault) → EndComes w order [] [] (cells_of x) c u z (Err e) → IsFault w order c e u
+    pub side_fails : (c : SourceOver) (u : DecodingSeen) (z : Stream) (e : DecodeFault) → EndComes w order [] [] (cells_of x) c u z (Err e) → IsFault w order c e u
     side_fails c u z e r = fault_reported w legal order c u e (subst (λ n. FaultOf the_stream w order [] [] n c u e) no_cells r)
 
-    pub side_in_order : (c : SourceSeen) (u : DecodingSeen) (z : Stream) (e : DecodeFault) → EndComes w order [] [] (cells_of x) c u z (Err e) → IsInOrder w order c e u
+    pub side_in_order : (c : SourceOver) (u : DecodingSeen) (z : Stream) (e : DecodeFault) → EndComes w order [] [] (cells_of x) c u z (Err e) → IsInOrder w order c e u
     side_in_order c u z e r = in_order_reported w legal order c u e (subst (λ n. FaultOf the_stream w order [] [] n c u e) no_cells r)
 
-    pub side_ends : (c : SourceSeen) (u : DecodingSeen) (z : Stream) → WasRead w order [] [] (cells_of x) c u z → IsDecoded w order c z.machine.at (closed z.machine.builder) u
+    pub side_ends : (c : SourceOver) (u : DecodingSeen) (z : Stream) → WasRead w order [] [] (cells_of x) c u z → IsDecoded w order c z.machine.at (closed z.machine.builder) u
     side_ends c u z r = decoded_reported w legal order c u z (subst (λ n. WasRead w order [] [] n c u z) no_cells r)
 
-    pub decoded_as : (c : SourceSeen) (u : DecodingSeen) (z : Stream) (count : ℕ) (f : Fitting) → f ≡ fitting z.machine.builder → count ≡ z.machine.at → WasRead w order [] [] (cells_of x) c u z
+    pub decoded_as : (c : SourceOver) (u : DecodingSeen) (z : Stream) (count : ℕ) (f : Fitting) → f ≡ fitting z.machine.builder → count ≡ z.machine.at → WasRead w order [] [] (cells_of x) c u z
         → IsDecoded w order c count f.graph u
     decoded_as c u z count f e h r =
         subst (λ k. IsDecoded w order c k f.graph u) (sym h) (subst (λ (k : Fitting). IsDecoded w order c z.machine.at k.graph u) (sym e) (side_ends c u z r))

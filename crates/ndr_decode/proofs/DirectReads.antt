@@ -6,7 +6,7 @@ use Rattle.std.proofs.Common.{◌≡◌, ◌≤◌, ℕ, ◌+◌, suc, List, [],
 use Rattle.std.specs.Prelude.{slice_get}
 use Rattle.nd_base.specs.declared.octets.Order.{Order}
 use Rattle.nd_base.specs.declared.TheConstants.{STREAM_LIMIT}
-use Rattle.nd_base.specs.Over.{SourceSeen}
+use Rattle.nd_base.specs.Over.{SourceOver}
 use Rattle.nd_types.specs.declared.types.Class.TheVariants.{Ref}
 use Rattle.nd_types.specs.declared.types.TypeDef.TheVariants as def
 use Rattle.nd_types.specs.declared.types.TypeId.{TypeId}
@@ -71,7 +71,7 @@ module _ (w : Setting) (side : IsLegalSide w) (order : Order) (fetched : List �
       safe_in_home w side values order code here to.0 (direct + 1) planned fine (going b.at seen) names fetched agrees.octets short noted x direct_good pays more items y reached
 
   -- a fault within the value is one of the stream
-  pub direct_fault : (source : SourceSeen) (notes : NotesSeen) (x1 : State) (e : DecodeFault) → EndsFault values order code here x source notes x1 e
+  pub direct_fault : (source : SourceOver) (notes : NotesSeen) (x1 : State) (e : DecodeFault) → EndsFault values order code here x source notes x1 e
       → FaultOf the_head w order fetched noted (length x.cells) source (decoding_of notes) e
   direct_fault source notes x1 e ends =
       fault_comes values order code w.table here to.0 32 (direct + 1) target planned fetched noted x direct_good source notes the_head w agrees.octets agrees.needed
@@ -80,7 +80,7 @@ module _ (w : Setting) (side : IsLegalSide w) (order : Order) (fetched : List �
       (few_next w side order fetched noted direct b s seen [] (suc n) agrees r there (ap is_direct refers)) x1 e ends
 
   -- what the value is, and what is kept after it
-  module _ (source : SourceSeen) (notes : NotesSeen) (x1 : State)
+  module _ (source : SourceOver) (notes : NotesSeen) (x1 : State)
       (within : (more : List ℕ) (items : List Item) (y : State) → Reaches values order code here x more items y → y.at ≤ STREAM_LIMIT) (ends : EndsWhole values order code here x source notes x1) where
     abbrev pub read : HomeWhole order w.table here to.0 (direct + 1) target fetched noted (length x.cells) source (decoding_of notes) x1
     read = whole_comes values order code w.table here to.0 32 (direct + 1) target planned fetched noted x direct_good source notes x1 within ends

@@ -7,7 +7,7 @@ use Rattle.std.specs.Prelude.{slice_get}
 use Rattle.std.proofs.lemmas.List.{append-nil, length-map}
 use Rattle.nd_base.specs.declared.octets.Order.{Order}
 use Rattle.nd_base.specs.declared.TheConstants.{STREAM_LIMIT}
-use Rattle.nd_base.specs.Over.{Count, SourceSeen}
+use Rattle.nd_base.specs.Over.{Count, SourceOver}
 use Rattle.nd_types.specs.declared.types.Class.TheVariants.{Ref}
 use Rattle.nd_types.specs.declared.types.TypeDef.TheVariants as def
 use Rattle.nd_types.specs.declared.types.TypeId.{TypeId}
@@ -206,7 +206,7 @@ module _ (plan : Plan) (order : Order) (to : TypeId) (run : ℕ) (x : Stream) (w
         safe.within
 
     -- a fault within its value
-    pub direct_stops : (source : SourceSeen) (notes : NotesSeen) (k : ℕ) (x1 : State) (y : Stream) (e : DecodeFault) (result : Result (Unit {0}) DecodeFault) → notes.steps ≡ k + 1
+    pub direct_stops : (source : SourceOver) (notes : NotesSeen) (k : ℕ) (x1 : State) (y : Stream) (e : DecodeFault) (result : Result (Unit {0}) DecodeFault) → notes.steps ≡ k + 1
         → EndsFault plan.values order plan.code s1.machine.home (state_of s1.machine) source notes x1 e → IsErrAnd result (λ z. z ≡ e)
         → Reads w side order fetched noted (cells_of x) n source (with_steps k (decoding_of notes)) y result
     direct_stops source notes k x1 y e result one ends is =
@@ -217,14 +217,14 @@ module _ (plan : Plan) (order : Order) (to : TypeId) (run : ℕ) (x : Stream) (w
         (legal_is plan w table) plan.code (code_is plan w table) (planned_is plan w table) source notes x1 e
         (subst (λ (h : Home). EndsFault plan.values order plan.code h (state_of s1.machine) source notes x1 e) at_home ends))))
 
-    direct_whole : (source : SourceSeen) (notes : NotesSeen) (x1 : State) → EndsWhole plan.values order plan.code s1.machine.home (state_of s1.machine) source notes x1
+    direct_whole : (source : SourceOver) (notes : NotesSeen) (x1 : State) → EndsWhole plan.values order plan.code s1.machine.home (state_of s1.machine) source notes x1
         → HomeWhole order w.table (cell_home (length s.names.cells + 1)) to.0 (direct + 1) target fetched noted (length (state_of s1.machine).cells) source (decoding_of notes) x1
     direct_whole source notes x1 ends =
         read w side order fetched noted direct (between_of x) s seen n st.agrees r there to refers (state_of s1.machine) at_whole plan.values plan.tie.operations
         (legal_is plan w table) plan.code (code_is plan w table) (planned_is plan w table) source notes x1 within
         (subst (λ (h : Home). EndsWhole plan.values order plan.code h (state_of s1.machine) source notes x1) at_home ends)
 
-    module _ (source : SourceSeen) (t : DecodingSeen) (k : ℕ) (one : t.steps ≡ k + 1) (s2 : Stream)
+    module _ (source : SourceOver) (t : DecodingSeen) (k : ℕ) (one : t.steps ≡ k + 1) (s2 : Stream)
         (hw : HomeWhole order w.table (cell_home (length s.names.cells + 1)) to.0 (direct + 1) target fetched noted (length (state_of s1.machine).cells) source t (state_of s2.machine)) where
       part : TookPart source (with_steps k t) (cells_of x) hw.octets hw.items (length (state_of s2.machine).cells)
       part = let a = hw.took.steps in let b = so_many in record { left = hw.took.left; logged = hw.took.logged; steps = omega (arith, a, b, one) }
@@ -344,7 +344,7 @@ module _ (plan : Plan) (order : Order) (to : TypeId) (run : ℕ) (x : Stream) (w
             }
 
     -- its value is whole, and it is kept or memory fails
-    pub direct_last : (source : SourceSeen) (notes : NotesSeen) (k : ℕ) → notes.steps ≡ k + 1 → (s2 s3 : Stream)
+    pub direct_last : (source : SourceOver) (notes : NotesSeen) (k : ℕ) → notes.steps ≡ k + 1 → (s2 s3 : Stream)
         → s1.machine.builder ≡ opened (cell_home c.0) (with_reference c.0 to.0 (closed x.machine.builder)) x.machine.builder
         → KeepsAll x s2 → outside s2.machine ≡ outside s1.machine → EndsWhole plan.values order plan.code s1.machine.home (state_of s1.machine) source notes (state_of s2.machine)
         → (result : Result (Unit {0}) DecodeFault) → OnOk result (ReferenceEnds c s2 s3) → IfErr result (λ e. e ≡ fault.Memory)

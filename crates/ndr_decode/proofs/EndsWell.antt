@@ -1,7 +1,7 @@
 -- A stream that was read to its end.
 use Rattle.std.proofs.Common.{◌≡◌, ℕ, ◌+◌, List, [], ◌++◌, length, ap, sym, ◌∙◌, subst, append_assoc, arith}
 use Rattle.nd_base.specs.declared.octets.Order.{Order}
-use Rattle.nd_base.specs.Over.{SourceSeen}
+use Rattle.nd_base.specs.Over.{SourceOver}
 use Rattle.nd_types.specs.Number.{AreOctets}
 use Rattle.nd_value.specs.declared.item.Item.{Item}
 use Rattle.nd_value.specs.Setting.{Setting}
@@ -18,7 +18,7 @@ use Rattle.ndr_decoder_stream.specs.declared.stream.Stream.{Stream}
 use Rattle.ndr_decoder_stream.proofs.Opened.{closed_length}
 use Rattle.ndr_decode.specs.Streaming.{WasRead, WentOn, cells_of}
 
-pub decoded_reported : (w : Setting) → IsLegalSide w → (order : Order) (source : SourceSeen) (t : DecodingSeen) (x : Stream) → WasRead w order [] [] 0 source t x
+pub decoded_reported : (w : Setting) → IsLegalSide w → (order : Order) (source : SourceOver) (t : DecodingSeen) (x : Stream) → WasRead w order [] [] 0 source t x
     → IsDecoded w order source x.machine.at (closed x.machine.builder) t
 decoded_reported w legal order source t x r =
     let steps = r.took.steps in
@@ -28,7 +28,7 @@ decoded_reported w legal order source t x r =
     (omega (arith, steps, many))
 
 -- after a call that went on
-pub read_after : (w : Setting) (side : IsLegalSide w) (order : Order) (fetched : List ℕ) (noted : List Item) (cells : ℕ) (a b c : SourceSeen) (s t u : DecodingSeen) → Follows a b c s t u
+pub read_after : (w : Setting) (side : IsLegalSide w) (order : Order) (fetched : List ℕ) (noted : List Item) (cells : ℕ) (a b c : SourceOver) (s t u : DecodingSeen) → Follows a b c s t u
     → (x : Stream) (n : ℕ)
     → (g : WentOn w side order fetched noted cells a s x n) → (y : Stream) → WasRead w order (fetched ++ g.octets) (noted ++ g.items) (cells_of x) b t y → WasRead w order fetched noted cells c u y
 read_after w side order fetched noted cells a b c s t u follows x n g y r =

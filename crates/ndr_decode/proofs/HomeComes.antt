@@ -8,7 +8,7 @@ use Rattle.std.proofs.lemmas.List.{append-nil}
 use Rattle.std.proofs.lemmas.Option.{same_Some}
 use Rattle.nd_base.specs.declared.octets.Order.{Order}
 use Rattle.nd_base.specs.declared.TheConstants.{STREAM_LIMIT}
-use Rattle.nd_base.specs.Over.{SourceSeen}
+use Rattle.nd_base.specs.Over.{SourceOver}
 use Rattle.nd_types.specs.Number.{AreOctets}
 use Rattle.nd_types.specs.Table.{Table}
 use Rattle.nd_value.specs.declared.item.Home.{Home}
@@ -88,12 +88,12 @@ ticks_are (x ∷ xs) = go x.kind (ticks_are xs)
     go kind.Context e = omega (arith, e)
     go kind.Chunk e = omega (arith, e)
 
-pub took_all : (source : SourceSeen) (notes : NotesSeen) (s0 s : State) (octets : List ℕ) (xs : List Item) → Consumes source.left source.left_now octets → IsLogged xs s0 s notes
+pub took_all : (source : SourceOver) (notes : NotesSeen) (s0 s : State) (octets : List ℕ) (xs : List Item) → Consumes source.left source.left_now octets → IsLogged xs s0 s notes
     → Took source (decoding_of notes) (length s0.cells) octets xs (length s.cells)
 took_all source notes s0 s octets xs left (log, count) =
     let t = ticks_are xs in record { left = left; logged = log ∙ noted_as xs notes.log; steps = omega (arith, count, t) }
 
-pub took_some : (source : SourceSeen) (notes : NotesSeen) (s0 s : State) (octets : List ℕ) (xs : List Item) → Consumes source.left source.left_now octets → IsLoggedPart xs s0 s notes
+pub took_some : (source : SourceOver) (notes : NotesSeen) (s0 s : State) (octets : List ℕ) (xs : List Item) → Consumes source.left source.left_now octets → IsLoggedPart xs s0 s notes
     → TookPart source (decoding_of notes) (length s0.cells) octets xs (length s.cells)
 took_some source notes s0 s octets xs left (log, count) =
     let t = ticks_are xs in record { left = left; logged = log ∙ noted_as xs notes.log; steps = omega (arith, count, t) }
@@ -108,7 +108,7 @@ IsNotCut reason.Truncated = ⊥
 IsNotCut why = Unit {0}
 
 module _ (values : List EnumList) (order : Order) (code : List Instr) (table : Table) (h : Home) (own limit direct : ℕ) (target : List ℕ → Read) (planned : IsPlanned code values table)
-    (f0 : List ℕ) (n0 : List Item) (s0 : State) (g0 : Good order f0 code table h own limit n0 direct target s0) (source : SourceSeen) (notes : NotesSeen) where
+    (f0 : List ℕ) (n0 : List Item) (s0 : State) (g0 : Good order f0 code table h own limit n0 direct target s0) (source : SourceOver) (notes : NotesSeen) where
   abbrev Comes : Type 0
   Comes = End values order code h s0 source
 

@@ -5,7 +5,7 @@ use Rattle.std.proofs.Common.{◌≡◌, ◌≤◌, ◌<◌, ℕ, ◌+◌, ◌*�
 use Rattle.std.proofs.lemmas.List.{length-map, length-reverse}
 use Rattle.nd_base.specs.declared.octets.Order.{Order}
 use Rattle.nd_base.specs.declared.TheConstants.{STREAM_LIMIT}
-use Rattle.nd_base.specs.Over.{SourceSeen}
+use Rattle.nd_base.specs.Over.{SourceOver}
 use Rattle.nd_value.specs.declared.item.Item.{Item}
 use Rattle.nd_value.specs.Deferral.{Pending}
 use Rattle.nd_value.specs.Logged.{Logged}
@@ -31,7 +31,7 @@ use Rattle.ndr_decode.proofs.Standing.{then_fault, then_went_taking, went_nowher
 
 -- ## Calls one after the other
 
-abbrev pub source_by : Option (List ℕ) → Option (List ℕ) → Bool → ℕ → ℕ → SourceSeen
+abbrev pub source_by : Option (List ℕ) → Option (List ℕ) → Bool → ℕ → ℕ → SourceOver
 source_by l l' e f f' = record { left = l; left_now = l'; ended = e; faults = record { before = f; now = f' } }
 
 followed : (l0 l1 l2 : Option (List ℕ)) (e1 e2 : Bool) (f0 f1 f2 : ℕ) (g0 g1 g2 : Logged) (k0 k1 k2 : ℕ)
@@ -63,7 +63,7 @@ one_turn turns x q y y' o q' z t same e paid =
     omega (arith, before, now, at, one_more)
 
 -- what was read so far
-abbrev pub SoFar : Plan → Order → Stream → SourceSeen → DecodingSeen → Option Owed → Stream → Type 0
+abbrev pub SoFar : Plan → Order → Stream → SourceOver → DecodingSeen → Option Owed → Stream → Type 0
 SoFar plan order x source t q y =
     (w : Setting) (side : IsLegalSide w) (fetched : List ℕ) (noted : List Item) (direct : ℕ) (s : Reading) (seen : List EntryAt) (ps : List Pending) (n : ℕ) → w.table ≡ plan.tie.types
     → Stands w side order fetched noted direct x s seen ps n → WentOnTaking w side order fetched noted (cells_of x) source t q y n
@@ -134,13 +134,13 @@ module _ (plan : Plan) (order : Order) (x : Stream) (q : Option Owed) (y : Strea
     -- ## A turn
 
     module _ (l2 : Option (List ℕ)) (e2 : Bool) (f2 : ℕ) (g2 : Logged) (k2 : ℕ) where
-      abbrev first : SourceSeen
+      abbrev first : SourceOver
       first = source_by l0 l1 e1 f0 f1
 
-      abbrev second : SourceSeen
+      abbrev second : SourceOver
       second = source_by l1 l2 e2 f1 f2
 
-      abbrev both : SourceSeen
+      abbrev both : SourceOver
       both = source_by l0 l2 e2 f0 f2
 
       follow : Follows first second both (decoding_seen g0 g1 k0 k1) (decoding_seen g1 g2 k1 k2) (decoding_seen g0 g2 k0 k2)
@@ -171,7 +171,7 @@ module _ (plan : Plan) (order : Order) (x : Stream) (q : Option Owed) (y : Strea
           (subst (λ (m : Machine). FaultOf the_head w order (fetched ++ g.octets) (noted ++ g.items) (length m.builder.graph.cells) second (decoding_seen g1 g2 k1 k2) f) same fails)
 
 -- what is right of a fault is right of the answer that hands it on
-pub pending_fault : (plan : Plan) (order : Order) (x : Stream) (source : SourceSeen) (t : DecodingSeen) (y : Stream) (r : Result (Unit {0}) DecodeFault) (e : DecodeFault) → IsErrAnd r (λ z. z ≡ e)
+pub pending_fault : (plan : Plan) (order : Order) (x : Stream) (source : SourceOver) (t : DecodingSeen) (y : Stream) (r : Result (Unit {0}) DecodeFault) (e : DecodeFault) → IsErrAnd r (λ z. z ≡ e)
     → PendingReads plan order x source t y (Err e) → PendingReads plan order x source t y r
 pending_fault plan order x source t y (Ok u) e is f w side fetched noted direct s seen ps n table st = absurd is
 pending_fault plan order x source t y (Err z) e is f w side fetched noted direct s seen ps n table st =

@@ -6,7 +6,7 @@ use Rattle.std.specs.List.{AllByRecursion}
 use Rattle.std.proofs.lemmas.List.{append-nil, length-replicate}
 use Rattle.nd_base.specs.declared.octets.Order.{Order}
 use Rattle.nd_base.specs.declared.TheConstants.{STREAM_LIMIT}
-use Rattle.nd_base.specs.Over.{SourceSeen}
+use Rattle.nd_base.specs.Over.{SourceOver}
 use Rattle.nd_types.specs.declared.types.TypeDef.TheVariants as def
 use Rattle.nd_types.specs.declared.types.TypeId.{TypeId}
 use Rattle.nd_types.specs.Roots.{Root}
@@ -169,7 +169,7 @@ module _ (plan : Plan) (w : Setting) (legal : IsLegalSide w) (order : Order) (fe
         pays later xs y (subst (λ u. Reaches plan.values order plan.code u (state_of o) later xs y) at_root reached)
 
     -- a fault within them is one of the stream
-    pub elements_fault : (source : SourceSeen) (notes : NotesSeen) (s1 : State) (e : DecodeFault) → EndsFault plan.values order plan.code o.home (state_of o) source notes s1 e
+    pub elements_fault : (source : SourceOver) (notes : NotesSeen) (s1 : State) (e : DecodeFault) → EndsFault plan.values order plan.code o.home (state_of o) source notes s1 e
         → FaultOf the_stream w order f0 n0 (length (state_of o).cells) source (decoding_of notes) e
     elements_fault source notes s1 e ends =
         fault_comes plan.values order plan.code w.table h pipe 33 direct target planned f0 n0 (state_of o) elements_good source notes the_stream w after.stands.octets after.stands.needed
@@ -179,7 +179,7 @@ module _ (plan : Plan) (w : Setting) (legal : IsLegalSide w) (order : Order) (fe
 
     -- ## Their end
 
-    module _ (z : Machine) (out : outside z ≡ outside o) (source : SourceSeen) (notes : NotesSeen) (ends0 : EndsWhole plan.values order plan.code o.home (state_of o) source notes (state_of z)) where
+    module _ (z : Machine) (out : outside z ≡ outside o) (source : SourceOver) (notes : NotesSeen) (ends0 : EndsWhole plan.values order plan.code o.home (state_of o) source notes (state_of z)) where
       ends : EndsWhole plan.values order plan.code h (state_of o) source notes (state_of z)
       ends = subst (λ u. EndsWhole plan.values order plan.code u (state_of o) source notes (state_of z)) at_root ends0
 

@@ -2,7 +2,7 @@
 use Rattle.std.proofs.Common.{◌≡◌, ◌≤◌, ℕ, List, [], ◌++◌, length, Option, subst, arith}
 use Rattle.std.proofs.lemmas.List.{append-nil}
 use Rattle.nd_base.specs.declared.octets.Order.{Order}
-use Rattle.nd_base.specs.Over.{SourceSeen}
+use Rattle.nd_base.specs.Over.{SourceOver}
 use Rattle.nd_types.specs.Number.{AreOctets}
 use Rattle.nd_value.specs.declared.item.Home.{Home}
 use Rattle.nd_value.specs.declared.item.Item.{Item}
@@ -38,7 +38,7 @@ cut_at w order fetched noted direct h seen names cells numbers max_at n half at 
     }
 
 -- after so many octets
-pub cut_after : (w : Setting) (order : Order) (fetched : List ℕ) (noted : List Item) (n n' : ℕ) (source : SourceSeen) (t : DecodingSeen) (octets : List ℕ) (items : List Item)
+pub cut_after : (w : Setting) (order : Order) (fetched : List ℕ) (noted : List Item) (n n' : ℕ) (source : SourceOver) (t : DecodingSeen) (octets : List ℕ) (items : List Item)
     → Took source t n octets items n'
     → StreamCut the_stream w order (fetched ++ octets) (noted ++ items) n' → CutOff the_stream w order fetched noted n source t
 cut_after w order fetched noted n n' source t octets items took cut =

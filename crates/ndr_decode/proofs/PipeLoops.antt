@@ -4,7 +4,7 @@
 use Rattle.std.proofs.Common.{◌≡◌, ◌≤◌, ℕ, ◌+◌, zero, suc, Bool, List, [], ◌∷◌, ◌++◌, length, Option, None, Result, Ok, Err, IsErrAnd, refl, ap, sym, ◌∙◌, subst, arith, append_assoc}
 use Rattle.std.proofs.lemmas.List.{append-nil}
 use Rattle.nd_base.specs.declared.octets.Order.{Order}
-use Rattle.nd_base.specs.Over.{Count, SourceSeen}
+use Rattle.nd_base.specs.Over.{Count, SourceOver}
 use Rattle.nd_types.specs.declared.types.TypeId.{TypeId}
 use Rattle.nd_types.specs.Roots.{Root}
 use Rattle.nd_value.specs.declared.item.Home.TheVariants as home
@@ -34,14 +34,14 @@ use Rattle.ndr_decoder_stream.proofs.Counting.{faulty}
 use Rattle.ndr_decode.proofs.Standing.{idle_log, idle_source, then_fault, took_nothing}
 
 -- Of the pipe that came next so many elements were read.
-abbrev pub PipeGoesOn : Plan → Order → ℕ → ℕ → ℕ → Machine → SourceSeen → DecodingSeen → Machine → Type 0
+abbrev pub PipeGoesOn : Plan → Order → ℕ → ℕ → ℕ → Machine → SourceOver → DecodingSeen → Machine → Type 0
 PipeGoesOn plan order i run so_far m source t n =
     (w : Setting) → IsLegalSide w → (fetched : List ℕ) (noted : List Item) (direct : ℕ) (first : Names) (r : Root) (rs : List Root) (roots : List Tree) (k : Position) (elem : TypeId)
     → IsPipeBy plan w r.of elem run → IsBefore w order fetched noted direct first i (r ∷ rs) roots k m
     → ElementsRead w order fetched noted direct first i rs roots elem m.cells source t n so_far
 
 -- so the next chunk is due
-pub chunk_due : (plan : Plan) (order : Order) (i run so_far : ℕ) (m n : Machine) (source : SourceSeen) (t : DecodingSeen) → IsAtPipe plan order i run m
+pub chunk_due : (plan : Plan) (order : Order) (i run so_far : ℕ) (m n : Machine) (source : SourceOver) (t : DecodingSeen) → IsAtPipe plan order i run m
     → PipeGoesOn plan order i run so_far m source t n → IsAtChunk plan order i run so_far n
 chunk_due plan order i run so_far m n source t x goes =
     let e = goes x.w x.legal x.fetched x.noted x.direct x.first x.r x.rs x.roots x.k x.elem x.by_plan x.before in
@@ -102,8 +102,8 @@ module _ (plan : Plan) (w : Setting) (legal : IsLegalSide w) (order : Order) (fe
 
   -- ## A turn
 
-  module _ (n : Machine) (a : SourceSeen) (s : DecodingSeen) (so_far : ℕ) (x : ElementsRead w order fetched noted direct first i rs roots elem m.cells a s n so_far) where
-    module _ (z : Machine) (b e : SourceSeen) (t u : DecodingSeen) (f : Follows a b e s t u) where
+  module _ (n : Machine) (a : SourceOver) (s : DecodingSeen) (so_far : ℕ) (x : ElementsRead w order fetched noted direct first i rs roots elem m.cells a s n so_far) where
+    module _ (z : Machine) (b e : SourceOver) (t u : DecodingSeen) (f : Follows a b e s t u) where
       abbrev Comes : Result ℕ DecodeFault → Type 0
       Comes result = ChunkComes w order (fetched ++ x.octets) (noted ++ x.items) direct first i rs roots elem so_far n.cells b t z result
 
@@ -139,7 +139,7 @@ module _ (plan : Plan) (w : Setting) (legal : IsLegalSide w) (order : Order) (fe
       }
 
   -- a fault comes
-  pub pipe_faulty : (source : SourceSeen) (t : DecodingSeen) (z : Machine) (d : DecodeFault) → FaultOf the_stream w order fetched noted m.cells source t d → (result : Result (Unit {0}) DecodeFault)
+  pub pipe_faulty : (source : SourceOver) (t : DecodingSeen) (z : Machine) (d : DecodeFault) → FaultOf the_stream w order fetched noted m.cells source t d → (result : Result (Unit {0}) DecodeFault)
       → IsErrAnd result (λ y. y ≡ d)
       → PipeComes w order fetched noted direct first i rs roots m.cells source t z result
   pipe_faulty source t z d f result is = subst (PipeComes w order fetched noted direct first i rs roots m.cells source t z) (faulty result d is) f

@@ -4,7 +4,7 @@ use Rattle.std.proofs.Common.{◌≡◌, ◌≤◌, ℕ, ◌+◌, ◌*◌, zero,
 use Rattle.std.specs.Prelude.{slice_set}
 use Rattle.std.proofs.lemmas.List.{append-nil}
 use Rattle.nd_base.specs.declared.octets.Order.{Order}
-use Rattle.nd_base.specs.Over.{SourceSeen}
+use Rattle.nd_base.specs.Over.{SourceOver}
 use Rattle.nd_types.specs.declared.types.TypeDef.TheVariants as def
 use Rattle.nd_types.specs.declared.types.TypeId.{TypeId}
 use Rattle.nd_types.specs.Roots.{Root}
@@ -153,7 +153,7 @@ module _ (w : Setting) (order : Order) (fetched : List ℕ) (noted : List Item) 
         values = λ c. added.values c ∙ p.values c;
       }
 
-      pub pipe_ended : (source : SourceSeen) (t : DecodingSeen) → Took source t m.cells octets items m.cells → PipeRead w order fetched noted direct first i rs roots m.cells source t n
+      pub pipe_ended : (source : SourceOver) (t : DecodingSeen) → Took source t m.cells octets items m.cells → PipeRead w order fetched noted direct first i rs roots m.cells source t n
       pipe_ended source t took = record {
         octets = octets;
         items = items;

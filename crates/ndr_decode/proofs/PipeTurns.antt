@@ -3,7 +3,7 @@
 -- `begun` are begun. `a` and `s` are what was seen over the call that reads the count, `b` and `t` over the run, `e` and `u` over both.
 use Rattle.std.proofs.Common.{◌≡◌, ◌≤◌, ◌<◌, ◌^◌, ℕ, ◌+◌, ◌-◌, zero, suc, min, List, ◌++◌, length, Result, Ok, IsErrAnd, refl, ap, sym, ◌∙◌, subst, arith, append_assoc}
 use Rattle.nd_base.specs.declared.octets.Order.{Order}
-use Rattle.nd_base.specs.Over.{SourceSeen}
+use Rattle.nd_base.specs.Over.{SourceOver}
 use Rattle.nd_types.specs.declared.types.TypeId.{TypeId}
 use Rattle.nd_types.specs.Roots.{Root}
 use Rattle.nd_value.specs.declared.item.Home.{Home}
@@ -46,7 +46,7 @@ use Rattle.ndr_decode.proofs.Standing.{then_fault}
 
 -- ## Faults of the count
 
-pub count_fault : (w : Setting) (order : Order) (fetched : List ℕ) (noted : List Item) (n : ℕ) (source : SourceSeen) (t : DecodingSeen) (e : DecodeFault)
+pub count_fault : (w : Setting) (order : Order) (fetched : List ℕ) (noted : List Item) (n : ℕ) (source : SourceOver) (t : DecodingSeen) (e : DecodeFault)
     → chunks.FaultOf w order fetched noted n source t e → FaultOf the_stream w order fetched noted n source t e
 count_fault w order fetched noted n source t (fault.Bad place why) x = x
 count_fault w order fetched noted n source t fault.ReadFault x = x
@@ -57,12 +57,12 @@ module _ (plan : Plan) (w : Setting) (legal : IsLegalSide w) (order : Order) (fe
     (of_plan : IsPipeBy plan w r.of elem run) (done : Trees) (k0 : Position) (so_far : ℕ) (as_many : count done ≡ so_far) (m : Machine)
     (p : IsInPipe w order fetched noted direct first i rs roots elem done k0 m) where
   -- a fault comes
-  pub chunk_faulty : (source : SourceSeen) (t : DecodingSeen) (x : Machine) (e : DecodeFault) → FaultOf the_stream w order fetched noted m.cells source t e → (result : Result ℕ DecodeFault)
+  pub chunk_faulty : (source : SourceOver) (t : DecodingSeen) (x : Machine) (e : DecodeFault) → FaultOf the_stream w order fetched noted m.cells source t e → (result : Result ℕ DecodeFault)
       → IsErrAnd result (λ y. y ≡ e)
       → ChunkComes w order fetched noted direct first i rs roots elem so_far m.cells source t x result
   chunk_faulty source t x e f result is = subst (ChunkComes w order fetched noted direct first i rs roots elem so_far m.cells source t x) (faulty result e is) f
 
-  module _ (n : Machine) (moved : HasMoved m n) (a : SourceSeen) (s : DecodingSeen) (many : ℕ) (x : CountRead w order fetched noted direct first i rs roots elem done m.max_at m.cells a s n many) where
+  module _ (n : Machine) (moved : HasMoved m n) (a : SourceOver) (s : DecodingSeen) (many : ℕ) (x : CountRead w order fetched noted direct first i rs roots elem done m.max_at m.cells a s n many) where
     -- there are none
     pub chunk_none : many ≡ 0 → ChunkComes w order fetched noted direct first i rs roots elem so_far m.cells a s n (Ok 0)
     chunk_none e =
@@ -109,7 +109,7 @@ module _ (plan : Plan) (w : Setting) (legal : IsLegalSide w) (order : Order) (fe
         o_cells =
             ap length begins.cells ∙ sym (cells_many n) ∙ moved_cells w order fetched noted direct first i rs roots elem done k0 m n p moved
 
-        module _ (b : SourceSeen) (notes : NotesSeen) (e : SourceSeen) (u : DecodingSeen) (f : Follows a b e s (decoding_of notes) u) where
+        module _ (b : SourceOver) (notes : NotesSeen) (e : SourceOver) (u : DecodingSeen) (f : Follows a b e s (decoding_of notes) u) where
           -- a fault within them
           pub chunk_fault : e.faults.before ≤ b.faults.before → e.faults.now ≡ b.faults.now → (s1 : State) (d : DecodeFault) → EndsFault plan.values order plan.code o.home (state_of o) b notes s1 d
               → FaultOf the_stream w order fetched noted m.cells e u d

@@ -8,7 +8,7 @@ use Rattle.std.specs.List.{AllByRecursion}
 use Rattle.std.proofs.lemmas.List.{append-nil}
 use Rattle.std.proofs.lemmas.Option.{same_Some, slice_get_within as within}
 use Rattle.nd_base.specs.declared.octets.Order.{Order}
-use Rattle.nd_base.specs.Over.{Count, SourceSeen}
+use Rattle.nd_base.specs.Over.{Count, SourceOver}
 use Rattle.nd_types.specs.Number.{AreOctets}
 use Rattle.nd_types.specs.declared.types.Side.{Side}
 use Rattle.nd_types.specs.declared.types.TypeId.{TypeId}
@@ -83,7 +83,7 @@ each_left P (suc p) [] a = a
 each_left P (suc p) (y ∷ ys) a = each_left P p ys a.1
 
 -- So many pipes of the side were read.
-pub record PipesRead (w : Setting) (order : Order) (fetched : List ℕ) (noted : List Item) (direct : ℕ) (first : Names) (cells : ℕ) (source : SourceSeen) (t : DecodingSeen) (m : Machine)
+pub record PipesRead (w : Setting) (order : Order) (fetched : List ℕ) (noted : List Item) (direct : ℕ) (first : Names) (cells : ℕ) (source : SourceOver) (t : DecodingSeen) (m : Machine)
     (passed : ℕ) : Type 0 where
   pub octets : List ℕ
   pub items : List Item
@@ -98,7 +98,7 @@ pub record PipesRead (w : Setting) (order : Order) (fetched : List ℕ) (noted :
   pub took : Took source t cells octets items m.cells
 
 -- what the loop keeps, at a line
-abbrev pub PipesGoOn : Plan → ℕ → Side → Order → ℕ → Stream → SourceSeen → DecodingSeen → Stream → ℕ → ℕ → Type 0
+abbrev pub PipesGoOn : Plan → ℕ → Side → Order → ℕ → Stream → SourceOver → DecodingSeen → Stream → ℕ → ℕ → Type 0
 PipesGoOn plan n side order begin x source t y next number =
     (w : Setting) (legal : IsLegalSide w) (fetched : List ℕ) (noted : List Item) (direct : ℕ) (s : Reading) (seen : List EntryAt) → IsSettingOf plan n side w
     → Stands w legal order fetched noted direct x s seen [] 0 → TestsPass w order fetched noted direct (between_of x) s seen (parameter_tests w s)
@@ -184,7 +184,7 @@ module _ (plan : Plan) (n : ℕ) (side : Side) (order : Order) (w : Setting) (le
 
   -- ## The next pipe
 
-  module _ (y : Stream) (a : SourceSeen) (d : DecodingSeen) (passed : ℕ) (p : PipesRead w order fetched noted direct s.names (cells_of x) a d y.machine passed) where
+  module _ (y : Stream) (a : SourceOver) (d : DecodingSeen) (passed : ℕ) (p : PipesRead w order fetched noted direct s.names (cells_of x) a d y.machine passed) where
     abbrev f0 : List ℕ
     f0 = fetched ++ p.octets
 
@@ -341,7 +341,7 @@ module _ (plan : Plan) (n : ℕ) (side : Side) (order : Order) (w : Setting) (le
           let few : length (root_list w) ≤ 513 = roots_few w legal in
           omega (arith, l, is, few, number_here)
 
-      module _ (z : Machine) (b e : SourceSeen) (t u : DecodingSeen) (f : Follows a b e d t u) where
+      module _ (z : Machine) (b e : SourceOver) (t u : DecodingSeen) (f : Follows a b e d t u) where
         abbrev Comes : Result (Unit {0}) DecodeFault → Type 0
         Comes result = PipeComes w order f0 n0 direct s.names number q.rest p.roots y.machine.cells b t z result
 
@@ -368,7 +368,7 @@ module _ (plan : Plan) (n : ℕ) (side : Side) (order : Order) (w : Setting) (le
         )
 
   -- a fault comes
-  pub ends_faulty : (source : SourceSeen) (t : DecodingSeen) (y : Stream) (v : DecodeFault) → FaultOf the_stream w order fetched noted (cells_of x) source t v
+  pub ends_faulty : (source : SourceOver) (t : DecodingSeen) (y : Stream) (v : DecodeFault) → FaultOf the_stream w order fetched noted (cells_of x) source t v
       → (result : Result (Unit {0}) DecodeFault) → IsErrAnd result (λ e. e ≡ v)
       → EndComes w order fetched noted (cells_of x) source t y result
   ends_faulty source t y v f result is = subst (EndComes w order fetched noted (cells_of x) source t y) (faulty result v is) f

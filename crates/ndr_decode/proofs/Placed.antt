@@ -4,7 +4,7 @@ use Rattle.std.proofs.Common.{◌≡◌, ℕ, suc, List, [], ◌∷◌, ◌++◌
 use Rattle.std.specs.Prelude.{slice_get}
 use Rattle.std.proofs.lemmas.List.{length-map}
 use Rattle.nd_base.specs.declared.octets.Order.{Order}
-use Rattle.nd_base.specs.Over.{SourceSeen}
+use Rattle.nd_base.specs.Over.{SourceOver}
 use Rattle.nd_value.specs.declared.item.Home.{Home}
 use Rattle.nd_value.specs.declared.item.Home.TheVariants as home
 use Rattle.nd_value.specs.declared.item.Item.{Item}
@@ -64,13 +64,13 @@ same_pending x y k = ap (λ ws. pending_in ws y.todo.items) k.wanted ∙ ap (pen
 pub types_length : (b : Building) → length (map (λ (c : Referent). c.of) b.graph.cells) ≡ length b.graph.cells
 types_length b = length-map b.graph.cells (λ c. c.of)
 
-pub took_by : (source : SourceSeen) (t : DecodingSeen) (n n' m m' : ℕ) (os : List ℕ) (is : List Item) → n ≡ n' → m ≡ m' → Took source t n os is m → Took source t n' os is m'
+pub took_by : (source : SourceOver) (t : DecodingSeen) (n n' m m' : ℕ) (os : List ℕ) (is : List Item) → n ≡ n' → m ≡ m' → Took source t n os is m → Took source t n' os is m'
 took_by source t n n' m m' os is e f k = subst (λ u. Took source t u os is m') e (subst (λ u. Took source t n os is u) f k)
 
 pub placed_ends : (w : Setting) (side : IsLegalSide w) (order : Order) (fetched : List ℕ) (noted : List Item) (direct : ℕ) (x s1 s2 s3 : Stream) (s : Reading) (seen : List EntryAt) (n : ℕ)
     → Stands w side order fetched noted direct x s seen [] (suc n) → (r : Root) → slice_get (root_list w) (length s.roots) ≡ Some r → is_direct (type_at w.table r.of) ≡ false
     → s1.machine.builder ≡ opened (home.Root (length x.machine.builder.graph.roots)) (with_root (closed x.machine.builder)) x.machine.builder → (state_of s1.machine).cells ≡ (between_of x).cells
-    → KeepsAll x s2 → outside s2.machine ≡ outside s1.machine → (source : SourceSeen) (t : DecodingSeen)
+    → KeepsAll x s2 → outside s2.machine ≡ outside s1.machine → (source : SourceOver) (t : DecodingSeen)
     → HomeWhole order w.table (home.Root (length s.roots)) r.of direct (home_target w order (between_of x) seen (home.Root (length s.roots)) r.of s.names) fetched noted
     (length (state_of s1.machine).cells) source t (state_of s2.machine)
     → RootEnds s2 s3 → WentOn w side order fetched noted (cells_of x) source t s3 n

@@ -5,7 +5,7 @@ use Rattle.std.specs.Prelude.{slice_get}
 use Rattle.std.proofs.lemmas.List.{append-nil}
 use Rattle.nd_base.specs.declared.octets.Order.{Order}
 use Rattle.nd_base.specs.declared.TheConstants.{STREAM_LIMIT}
-use Rattle.nd_base.specs.Over.{Count, SourceSeen}
+use Rattle.nd_base.specs.Over.{Count, SourceOver}
 use Rattle.nd_types.specs.Roots.{Root}
 use Rattle.nd_types.specs.Table.{type_at}
 use Rattle.nd_value.specs.declared.item.Home.{Home}
@@ -93,7 +93,7 @@ module _ (plan : Plan) (order : Order) (run : ℕ) (x : Stream) (w : Setting) (s
         safe.within
 
     -- a fault within its value
-    pub placed_fault : (source : SourceSeen) (notes : NotesSeen) (x1 : State) (y : Stream) (e : DecodeFault) (result : Result (Unit {0}) DecodeFault)
+    pub placed_fault : (source : SourceOver) (notes : NotesSeen) (x1 : State) (y : Stream) (e : DecodeFault) (result : Result (Unit {0}) DecodeFault)
         → EndsFault plan.values order plan.code s1.machine.home (state_of s1.machine) source notes x1 e → IsErrAnd result (λ z. z ≡ e)
         → Reads w side order fetched noted (cells_of x) n source (decoding_of notes) y result
     placed_fault source notes x1 y e result ends is =
@@ -103,14 +103,14 @@ module _ (plan : Plan) (order : Order) (run : ℕ) (x : Stream) (w : Setting) (s
         (state_of s1.machine) at_whole plan.values plan.tie.operations (legal_is plan w table) plan.code (code_is plan w table) (planned_is plan w table) source notes x1 e
         (subst (λ (h : Home). EndsFault plan.values order plan.code h (state_of s1.machine) source notes x1 e) at_home ends)))
 
-    placed_whole : (source : SourceSeen) (notes : NotesSeen) (x1 : State) → EndsWhole plan.values order plan.code s1.machine.home (state_of s1.machine) source notes x1
+    placed_whole : (source : SourceOver) (notes : NotesSeen) (x1 : State) → EndsWhole plan.values order plan.code s1.machine.home (state_of s1.machine) source notes x1
         → HomeWhole order w.table (home.Root (length s.roots)) r.of direct target fetched noted (length (state_of s1.machine).cells) source (decoding_of notes) x1
     placed_whole source notes x1 ends =
         root_whole w side order fetched noted direct (between_of x) s seen n st.agrees r there plain (usable_is plan w table side order fetched noted direct x s seen n st r there)
         (state_of s1.machine) at_whole plan.values plan.tie.operations (legal_is plan w table) plan.code (code_is plan w table) (planned_is plan w table) source notes x1 within
         (subst (λ (h : Home). EndsWhole plan.values order plan.code h (state_of s1.machine) source notes x1) at_home ends)
 
-    module _ (source : SourceSeen) (t : DecodingSeen) (x1 : State)
+    module _ (source : SourceOver) (t : DecodingSeen) (x1 : State)
         (hw : HomeWhole order w.table (home.Root (length s.roots)) r.of direct target fetched noted (length (state_of s1.machine).cells) source t x1) where
       part : TookPart source t (length (state_of s1.machine).cells) hw.octets hw.items (length x1.cells)
       part = let k = hw.took.steps in record { left = hw.took.left; logged = hw.took.logged; steps = omega (arith, k) }
@@ -137,7 +137,7 @@ module _ (plan : Plan) (order : Order) (run : ℕ) (x : Stream) (w : Setting) (s
           }
 
     -- its value is whole, and it is kept or memory fails
-    pub placed_last : (source : SourceSeen) (notes : NotesSeen) (s2 s3 : Stream)
+    pub placed_last : (source : SourceOver) (notes : NotesSeen) (s2 s3 : Stream)
         → s1.machine.builder ≡ opened (home.Root (length x.machine.builder.graph.roots)) (with_root (closed x.machine.builder)) x.machine.builder
         → KeepsAll x s2 → outside s2.machine ≡ outside s1.machine → EndsWhole plan.values order plan.code s1.machine.home (state_of s1.machine) source notes (state_of s2.machine)
         → (result : Result (Unit {0}) DecodeFault) → OnOk result (RootEnds s2 s3) → IfErr result (λ e. e ≡ fault.Memory)

@@ -4,7 +4,7 @@
 use Rattle.std.proofs.Common.{◌≡◌, ◌≤◌, ℕ, ◌+◌, ◌*◌, List, ◌∷◌, ◌++◌, length, map, take, drop, Option, Some, None, Result, Ok, Err, OnOk, sym, ap, ◌∙◌, subst, arith}
 use Rattle.nd_base.specs.declared.octets.Order.{Order}
 use Rattle.nd_base.specs.declared.TheConstants.{STREAM_LIMIT}
-use Rattle.nd_base.specs.Over.{SourceSeen}
+use Rattle.nd_base.specs.Over.{SourceOver}
 use Rattle.nd_types.specs.declared.types.Class.TheVariants.{Full}
 use Rattle.nd_value.specs.declared.item.Home.{Home}
 use Rattle.nd_value.specs.declared.item.Item.{Item}
@@ -86,7 +86,7 @@ module _ (plan : Plan) (order : Order) (o : Owed) (x : Stream) (c : CellId) (som
     pub safe : (more : List ℕ) (items : List Item) (y : State) → Reaches plan.values order plan.code s1.machine.home x0 more items y → IsSafe plan.code y
     safe more items y reached = safe_here more items y (subst (λ (h : Home). Reaches plan.values order plan.code h x0 more items y) here reached)
 
-    module _ (source : SourceSeen) (notes : NotesSeen) where
+    module _ (source : SourceOver) (notes : NotesSeen) where
       -- a fault within the value
       pub home_fault : (x1 : State) (e : DecodeFault) → EndsFault plan.values order plan.code s1.machine.home x0 source notes x1 e
           → FaultOf the_head w order fetched noted (cells_of x) source (decoding_of notes) e
@@ -127,7 +127,7 @@ module _ (plan : Plan) (order : Order) (o : Owed) (x : Stream) (c : CellId) (som
 
   -- all was read
   pub settled : {s2 s3 : Stream} (s4 : Stream) (k : Kept) → CellEnds c.0 k s2 s3 → HasOwn s2.machine k → KeepsAll x s2 → outside s2.machine ≡ outside s1.machine
-      → AllAgree k (owed_of x.wanted.items o).agreements → (source : SourceSeen) (notes : NotesSeen)
+      → AllAgree k (owed_of x.wanted.items o).agreements → (source : SourceOver) (notes : NotesSeen)
       → EndsWhole plan.values order plan.code s1.machine.home (state_of s1.machine) source notes (state_of s2.machine) → (q : Option Owed)
       → pending_with q s4.wanted.items s4.todo.items ≡ (state_of s3.machine).fresh ++ pending_in s3.wanted.items s3.todo.items → IsCleared s3.machine s4.machine
       → KeepsHomes s3 s4 → (w : Setting) (side : IsLegalSide w) (fetched : List ℕ) (noted : List Item) (direct : ℕ) (s : Reading) (seen : List EntryAt)
@@ -138,7 +138,7 @@ module _ (plan : Plan) (order : Order) (o : Owed) (x : Stream) (c : CellId) (som
       (is_whole w side fetched noted direct s seen p ps n table st source notes s2.machine ends) s3 s4 k own kept agree q pending cleared homes
 
   pub settled_paid : {s2 s3 : Stream} (s4 : Stream) (k : Kept) → CellEnds c.0 k s2 s3 → HasOwn s2.machine k → KeepsAll x s2 → outside s2.machine ≡ outside s1.machine
-      → AllAgree k (owed_of x.wanted.items o).agreements → (source : SourceSeen) (notes : NotesSeen)
+      → AllAgree k (owed_of x.wanted.items o).agreements → (source : SourceOver) (notes : NotesSeen)
       → EndsWhole plan.values order plan.code s1.machine.home (state_of s1.machine) source notes (state_of s2.machine) → (q : Option Owed)
       → pending_with q s4.wanted.items s4.todo.items ≡ (state_of s3.machine).fresh ++ pending_in s3.wanted.items s3.todo.items → IsCleared s3.machine s4.machine
       → KeepsHomes s3 s4 → (w : Setting) (side : IsLegalSide w) (fetched : List ℕ) (noted : List Item) (direct : ℕ) (s : Reading) (seen : List EntryAt)

@@ -4,7 +4,7 @@
 use Rattle.std.proofs.Common.{◌≡◌, ◌≤◌, ◌<◌, ℕ, ◌+◌, ◌*◌, List, [], ◌∷◌, ◌++◌, length, map, Option, Some, None, sym, ap, ◌∙◌, subst, arith}
 use Rattle.std.proofs.lemmas.List.{length-append, length-map}
 use Rattle.nd_base.specs.declared.octets.Order.{Order}
-use Rattle.nd_base.specs.Over.{SourceSeen}
+use Rattle.nd_base.specs.Over.{SourceOver}
 use Rattle.nd_types.specs.declared.types.Class.TheVariants.{Full}
 use Rattle.nd_types.specs.Number.{AreOctets}
 use Rattle.nd_value.specs.declared.item.Item.{Item}
@@ -50,7 +50,7 @@ kept_by at os u ns roots read = record { at = at; pending = os; cells = map (λ 
 module _ (w : Setting) (side : IsLegalSide w) (order : Order) (fetched : List ℕ) (noted : List Item) (direct : ℕ) (o : Owed) (x : Stream) (s : Reading) (seen : List EntryAt) (p : Pending)
     (ps : List Pending) (n : ℕ)
     (st : StandsWith w side order fetched noted direct o x s seen p ps n) (c : CellId) (some : o.cell ≡ Some c) (unread : o.class ≡ Full → kept_at x.cells.items c.0 ≡ None)
-    (source : SourceSeen) (t : DecodingSeen) (s1 s2 : Stream) (opens : s1.machine.builder ≡ opened (cell_home c.0) (closed x.machine.builder) x.machine.builder)
+    (source : SourceOver) (t : DecodingSeen) (s1 s2 : Stream) (opens : s1.machine.builder ≡ opened (cell_home c.0) (closed x.machine.builder) x.machine.builder)
     (cells : (state_of s1.machine).cells ≡ (between_of x).cells) (keeps : KeepsAll x s2) (out : outside s2.machine ≡ outside s1.machine)
     (hw : HomeWhole order w.table (cell_home c.0) p.to direct (home_target w order (between_of x) seen (cell_home c.0) p.to s.names) fetched noted (length (state_of s1.machine).cells) source t
     (state_of s2.machine)) where

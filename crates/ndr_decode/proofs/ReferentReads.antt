@@ -5,7 +5,7 @@ use Rattle.std.proofs.Common.{◌≡◌, ◌≤◌, ◌<◌, ℕ, List, [], ◌�
 use Rattle.std.proofs.lemmas.List.{length-map}
 use Rattle.nd_base.specs.declared.octets.Order.{Order}
 use Rattle.nd_base.specs.declared.TheConstants.{STREAM_LIMIT}
-use Rattle.nd_base.specs.Over.{SourceSeen}
+use Rattle.nd_base.specs.Over.{SourceOver}
 use Rattle.nd_types.specs.declared.types.Class.TheVariants.{Full}
 use Rattle.nd_types.specs.declared.types.Operation.{Operation}
 use Rattle.nd_types.specs.Legal.{IsLegal}
@@ -111,7 +111,7 @@ module _ (w : Setting) (side : IsLegalSide w) (order : Order) (fetched : List �
         safe_in_home w side values order code (cell_home c.0) p.to direct planned fine (going x.machine.at seen) s.names fetched ag.octets short noted x0 referent_good pays more items y reached
 
     -- a fault within the value is one of the stream
-    pub referent_fault : (source : SourceSeen) (notes : NotesSeen) (x1 : State) (e : DecodeFault) → EndsFault values order code (cell_home c.0) x0 source notes x1 e
+    pub referent_fault : (source : SourceOver) (notes : NotesSeen) (x1 : State) (e : DecodeFault) → EndsFault values order code (cell_home c.0) x0 source notes x1 e
         → FaultOf the_head w order fetched noted (length x0.cells) source (decoding_of notes) e
     referent_fault source notes x1 e ends =
         fault_comes values order code w.table (cell_home c.0) p.to 32 direct target planned fetched noted x0 referent_good source notes the_head w ag.octets ag.needed
@@ -120,7 +120,7 @@ module _ (w : Setting) (side : IsLegalSide w) (order : Order) (fetched : List �
         (few_now w side order fetched noted direct (with_next o x) s seen (p ∷ ps) n ag) x1 e ends
 
     -- what the value is
-    pub referent_whole : (source : SourceSeen) (notes : NotesSeen) (x1 : State)
+    pub referent_whole : (source : SourceOver) (notes : NotesSeen) (x1 : State)
         → ((more : List ℕ) (items : List Item) (y : State) → Reaches values order code (cell_home c.0) x0 more items y → y.at ≤ STREAM_LIMIT)
         → EndsWhole values order code (cell_home c.0) x0 source notes x1
         → HomeWhole order w.table (cell_home c.0) p.to direct target fetched noted (length x0.cells) source (decoding_of notes) x1

@@ -4,7 +4,7 @@ use Rattle.std.proofs.Common.{◌≡◌, ℕ, List, Option, Some, Result, get_or
 use Rattle.std.specs.Prelude.{slice_get}
 use Rattle.std.proofs.lemmas.Option.{get_or_from_slice_get}
 use Rattle.nd_base.specs.declared.octets.Order.{Order}
-use Rattle.nd_base.specs.Over.{SourceSeen}
+use Rattle.nd_base.specs.Over.{SourceOver}
 use Rattle.nd_types.specs.declared.types.Class.TheVariants.{Ref, Unique, Full}
 use Rattle.nd_types.specs.declared.types.TypeDef.{TypeDef}
 use Rattle.nd_types.specs.declared.types.TypeDef.TheVariants as def
@@ -30,7 +30,7 @@ module _ (plan : Plan) (order : Order) (code : List Instr) (at : ℕ) (same : co
   pub at_it : (x : Stream) (i : Instr) → get_or code at op.Void ≡ i → IsNext plan order x at → IsAtRoot plan order x i
   at_it x i is next = subst (λ (k : Instr). IsAtRoot plan order x k) (there_is i next.0 is next.1.0) next.1.1
 
-  pub reads_it : (x y : Stream) (source : SourceSeen) (t : DecodingSeen) (result : Result (Unit {0}) DecodeFault) (i : Instr) → get_or code at op.Void ≡ i
+  pub reads_it : (x y : Stream) (source : SourceOver) (t : DecodingSeen) (result : Result (Unit {0}) DecodeFault) (i : Instr) → get_or code at op.Void ≡ i
       → RootReads plan order i x source t y result → (j : Instr) → slice_get plan.code at ≡ Some j → RootReads plan order j x source t y result
   reads_it x y source t result i is reads j there = subst (λ (k : Instr). RootReads plan order k x source t y result) (sym (there_is i j is there)) reads
 

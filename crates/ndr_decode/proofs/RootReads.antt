@@ -4,7 +4,7 @@ use Rattle.std.proofs.Common.{◌≡◌, ◌≤◌, ℕ, suc, false, List, [], l
 use Rattle.std.specs.Prelude.{slice_get}
 use Rattle.nd_base.specs.declared.octets.Order.{Order}
 use Rattle.nd_base.specs.declared.TheConstants.{STREAM_LIMIT}
-use Rattle.nd_base.specs.Over.{SourceSeen}
+use Rattle.nd_base.specs.Over.{SourceOver}
 use Rattle.nd_grammar.specs.ReaderState.{Usable}
 use Rattle.nd_types.specs.declared.types.Operation.{Operation}
 use Rattle.nd_types.specs.Legal.{IsLegal}
@@ -62,7 +62,7 @@ module _ (w : Setting) (side : IsLegalSide w) (order : Order) (fetched : List �
       safe_in_home w side values order code here r.of direct planned fine (going b.at seen) s.names fetched agrees.octets short noted x root_good pays more items y reached
 
   -- a fault within the value is one of the stream
-  pub root_fault : (source : SourceSeen) (notes : NotesSeen) (x1 : State) (e : DecodeFault) → EndsFault values order code here x source notes x1 e
+  pub root_fault : (source : SourceOver) (notes : NotesSeen) (x1 : State) (e : DecodeFault) → EndsFault values order code here x source notes x1 e
       → FaultOf the_head w order fetched noted (length x.cells) source (decoding_of notes) e
   root_fault source notes x1 e ends =
       fault_comes values order code w.table here r.of 32 direct target planned fetched noted x root_good source notes the_head w agrees.octets agrees.needed
@@ -71,7 +71,7 @@ module _ (w : Setting) (side : IsLegalSide w) (order : Order) (fetched : List �
       (few_now w side order fetched noted direct b s seen [] (suc n) agrees) x1 e ends
 
   -- what the value is
-  pub root_whole : (source : SourceSeen) (notes : NotesSeen) (x1 : State) → ((more : List ℕ) (items : List Item) (y : State) → Reaches values order code here x more items y → y.at ≤ STREAM_LIMIT)
+  pub root_whole : (source : SourceOver) (notes : NotesSeen) (x1 : State) → ((more : List ℕ) (items : List Item) (y : State) → Reaches values order code here x more items y → y.at ≤ STREAM_LIMIT)
       → EndsWhole values order code here x source notes x1
       → HomeWhole order w.table here r.of direct target fetched noted (length x.cells) source (decoding_of notes) x1
   root_whole source notes x1 within ends = whole_comes values order code w.table here r.of 32 direct target planned fetched noted x root_good source notes x1 within ends

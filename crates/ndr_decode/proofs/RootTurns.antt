@@ -4,7 +4,7 @@ use Rattle.std.proofs.Common.{◌≡◌, ◌≤◌, ◌<◌, ℕ, ◌+◌, suc, 
 use Rattle.std.specs.List.{slice_get}
 use Rattle.std.proofs.lemmas.Option.{slice_get_past}
 use Rattle.nd_base.specs.declared.octets.Order.{Order}
-use Rattle.nd_base.specs.Over.{Count, SourceSeen, source_seen}
+use Rattle.nd_base.specs.Over.{Count, SourceSeen, SourceOver, source_over}
 use Rattle.nd_types.specs.declared.types.Operation.{Operation}
 use Rattle.nd_types.specs.declared.types.Side.{Side}
 use Rattle.nd_types.specs.Number.{AreOctets}
@@ -64,21 +64,21 @@ begin_is plan op side w set number is =
 -- ## How far the loop has come
 
 -- In a setting: reading went on to the line of a number.
-pub record WentTo (plan : Plan) (op : ℕ) (w : Setting) (legal : IsLegalSide w) (order : Order) (cells : ℕ) (source : SourceSeen) (t : DecodingSeen) (y : Stream) (number : ℕ) : Type 0 where
+pub record WentTo (plan : Plan) (op : ℕ) (w : Setting) (legal : IsLegalSide w) (order : Order) (cells : ℕ) (source : SourceOver) (t : DecodingSeen) (y : Stream) (number : ℕ) : Type 0 where
   pub left : ℕ
   pub went : WentOn w legal order [] [] cells source t y left
   pub here : number + left ≡ begin_of plan op w + before_pipes (root_list w)
 
 -- the same, and nothing is pending
-pub record RestsAt (plan : Plan) (op : ℕ) (w : Setting) (legal : IsLegalSide w) (order : Order) (cells : ℕ) (source : SourceSeen) (t : DecodingSeen) (y : Stream) (number : ℕ) : Type 0 where
+pub record RestsAt (plan : Plan) (op : ℕ) (w : Setting) (legal : IsLegalSide w) (order : Order) (cells : ℕ) (source : SourceOver) (t : DecodingSeen) (y : Stream) (number : ℕ) : Type 0 where
   pub to : WentTo plan op w legal order cells source t y number
   pub none : to.went.ps ≡ []
 
 -- in each setting of the side
-abbrev pub AllWent : Plan → ℕ → Side → Order → ℕ → SourceSeen → DecodingSeen → Stream → ℕ → Type 0
+abbrev pub AllWent : Plan → ℕ → Side → Order → ℕ → SourceOver → DecodingSeen → Stream → ℕ → Type 0
 AllWent plan op side order cells source t y number = (w : Setting) (legal : IsLegalSide w) → IsSettingOf plan op side w → WentTo plan op w legal order cells source t y number
 
-abbrev pub AllRest : Plan → ℕ → Side → Order → ℕ → SourceSeen → DecodingSeen → Stream → ℕ → Type 0
+abbrev pub AllRest : Plan → ℕ → Side → Order → ℕ → SourceOver → DecodingSeen → Stream → ℕ → Type 0
 AllRest plan op side order cells source t y number = (w : Setting) (legal : IsLegalSide w) → IsSettingOf plan op side w → RestsAt plan op w legal order cells source t y number
 
 roots_left : (w : Setting) (legal : IsLegalSide w) (order : Order) (fetched : List ℕ) (noted : List Item) (direct : ℕ) (x : Stream) (s : Reading) (seen : List EntryAt) (ps : List Pending) (n : ℕ)
@@ -93,9 +93,9 @@ abbrev pub twice : ℕ → Count
 twice n = record { before = n; now = n }
 
 -- what was seen over two calls
-pub follows : {S : Type 0} (left : S → Option (List ℕ)) (ended : S → Bool) (faults : S → ℕ) (x y z : S) (f g h : Logged) (k l m : ℕ)
-    → Follows (source_seen left ended faults x y) (source_seen left ended faults y z) (source_seen left ended faults x z) (decoding_seen f g k l) (decoding_seen g h l m) (decoding_seen f h k m)
-follows left ended faults x y z f g h k l m = record {
+pub follows : {S : Type 0} (seen : S → SourceSeen) (x y z : S) (f g h : Logged) (k l m : ℕ)
+    → Follows (source_over seen x y) (source_over seen y z) (source_over seen x z) (decoding_seen f g k l) (decoding_seen g h l m) (decoding_seen f h k m)
+follows seen x y z f g h k l m = record {
   before = refl;
   middle = refl;
   after = refl;
@@ -109,7 +109,7 @@ follows left ended faults x y z f g h k l m = record {
 }
 
 -- a fault that is handed on
-pub handed_on : (plan : Plan) (op : ℕ) (side : Side) (order : Order) (x : Stream) (source : SourceSeen) (t : DecodingSeen) (y : Stream) (r : Result Found DecodeFault) (e : DecodeFault)
+pub handed_on : (plan : Plan) (op : ℕ) (side : Side) (order : Order) (x : Stream) (source : SourceOver) (t : DecodingSeen) (y : Stream) (r : Result Found DecodeFault) (e : DecodeFault)
     → IsErrAnd r (λ d. d ≡ e)
     → ((w : Setting) → IsLegalSide w → IsSettingOf plan op side w → FaultOf the_head w order [] [] (cells_of x) source t e) → RootsRead plan order op side x source t y r
 handed_on plan op side order x source t y (Ok f) e is h = absurd is
@@ -140,7 +140,7 @@ module _ (plan : Plan) (op : ℕ) (side : Side) (order : Order) where
         none = refl;
       }
 
-  module _ (cells : ℕ) (source : SourceSeen) (t : DecodingSeen) (y : Stream) (number : ℕ) where
+  module _ (cells : ℕ) (source : SourceOver) (t : DecodingSeen) (y : Stream) (number : ℕ) where
     module _ (w : Setting) (legal : IsLegalSide w) (set : IsSettingOf plan op side w) (r : RestsAt plan op w legal order cells source t y number) where
       abbrev i : ℕ
       i = length r.to.went.s.roots
@@ -246,7 +246,7 @@ module _ (plan : Plan) (op : ℕ) (side : Side) (order : Order) where
   -- ## A call after what went before
   -- `a` and `s` are what was seen before the call, `b` and `t` over it, `c` and `u` over both.
 
-  module _ (cells : ℕ) (a b c : SourceSeen) (s t u : DecodingSeen) (f : Follows a b c s t u) (y z : Stream) (number : ℕ) where
+  module _ (cells : ℕ) (a b c : SourceOver) (s t u : DecodingSeen) (f : Follows a b c s t u) (y z : Stream) (number : ℕ) where
     module _ (rests : AllRest plan op side order cells a s y number) (m : ℕ) (sd : Side) (name : List ℕ) (at : ℕ) (is : slice_get plan.entries number ≡ Some (line.Entry m sd name at)) where
       pub root_went : (v : Unit {0}) → ((j : Instr) → slice_get plan.code at ≡ Some j → RootReads plan order j y b t z (Ok v)) → AllWent plan op side order cells c u z (number + 1)
       root_went v reads w legal set =

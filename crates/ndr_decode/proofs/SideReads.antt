@@ -5,7 +5,7 @@ use Rattle.std.proofs.Common.{◌≡◌, ◌≤◌, ℕ, Bool, true, false, List
 use Rattle.std.specs.Prelude.{if◌then◌else◌, IsErrAnd}
 use Rattle.std.specs.List.{slice_get}
 use Rattle.nd_base.specs.declared.octets.Order.{Order}
-use Rattle.nd_base.specs.Over.{SourceSeen}
+use Rattle.nd_base.specs.Over.{SourceOver}
 use Rattle.nd_types.specs.declared.types.Side.{Side}
 use Rattle.nd_value.specs.Agreement.{Agreement, agreement}
 use Rattle.nd_value.specs.declared.item.Item.{Item}
@@ -43,7 +43,7 @@ use Rattle.ndr_decode.proofs.Standing.{idle_log, idle_source, not_cut, refused_h
 
 -- ## A fault that is handed on
 
-pub end_fault : (w : Setting) (order : Order) (fetched : List ℕ) (noted : List Item) (cells : ℕ) (source : SourceSeen) (t : DecodingSeen) (z : Stream) (r : Result (Unit {0}) DecodeFault)
+pub end_fault : (w : Setting) (order : Order) (fetched : List ℕ) (noted : List Item) (cells : ℕ) (source : SourceOver) (t : DecodingSeen) (z : Stream) (r : Result (Unit {0}) DecodeFault)
     (e : DecodeFault)
     → IsErrAnd r (λ k. k ≡ e) → FaultOf the_stream w order fetched noted cells source t e → EndComes w order fetched noted cells source t z r
 end_fault w order fetched noted cells source t z (Ok u) e is x = absurd is
@@ -91,7 +91,7 @@ module _ (plan : Plan) (number : ℕ) (way : Side) (order : Order) (w : Setting)
       (subst (λ d. IsRunAt (code_of plan.tie.types plan.tie.operations) (checks_at plan.tie.types plan.tie.operations number w.op way) (checks_run plan.tie.types w.op d)) (sym is.on)
       (checks_run_at plan.tie.types plan.tie.operations number w.op is.there way))))
 
-  module _ (x : Stream) (a : SourceSeen) (s : DecodingSeen) (y : Stream) (went : WentThrough w legal order [] [] (cells_of x) a s y 0) where
+  module _ (x : Stream) (a : SourceOver) (s : DecodingSeen) (y : Stream) (went : WentThrough w legal order [] [] (cells_of x) a s y 0) where
     abbrev g : WentOn w legal order [] [] (cells_of x) a s y 0
     g = went.0
 
@@ -144,7 +144,7 @@ module _ (plan : Plan) (number : ℕ) (way : Side) (order : Order) (w : Setting)
       refused_by fault.Memory h = absurd h
 
     -- the pipes
-    pub ends_after : TestsPass w order g.octets g.items g.direct (between_of y) g.s g.seen (parameter_tests w g.s) → (b c : SourceSeen) (t u : DecodingSeen) → Follows a b c s t u
+    pub ends_after : TestsPass w order g.octets g.items g.direct (between_of y) g.s g.seen (parameter_tests w g.s) → (b c : SourceOver) (t u : DecodingSeen) → Follows a b c s t u
         → c.faults.before ≤ b.faults.before → c.faults.now ≡ b.faults.now → (z : Stream) (result : Result (Unit {0}) DecodeFault)
         → StreamEnds plan number way order y b t z result → EndComes w order [] [] (cells_of x) c u z result
     ends_after held b c t u f low same z (Ok o) r =

@@ -7,7 +7,7 @@ use Rattle.std.specs.Ordering.{int_eq}
 use Rattle.std.proofs.lemmas.List.{append-nil}
 use Rattle.std.proofs.lemmas.Option.{same_Some}
 use Rattle.nd_base.specs.declared.octets.Order.{Order}
-use Rattle.nd_base.specs.Over.{Rose, SourceSeen, Count}
+use Rattle.nd_base.specs.Over.{Rose, SourceOver, Count}
 use Rattle.nd_value.specs.Agreement.{Agreement}
 use Rattle.nd_value.specs.Deferral.{Pending}
 use Rattle.nd_value.specs.declared.item.Home.TheVariants as home
@@ -43,7 +43,7 @@ use Rattle.ndr_decoder_stream.proofs.Counting.{none_noted}
 -- ## Nothing is read
 
 -- a source and a log that stay as they are
-abbrev pub idle_source : Option (List ℕ) → Bool → Count → SourceSeen
+abbrev pub idle_source : Option (List ℕ) → Bool → Count → SourceOver
 idle_source o ended faults = record { left = o; left_now = o; ended = ended; faults = faults }
 
 abbrev pub idle_log : Logged → ℕ → DecodingSeen
@@ -153,7 +153,7 @@ not_cut a f m place why e t = go (int_eq a.wanted (first_found a.attr f)) (place
 -- ## One call after the other
 
 -- what a call comes to after another one that went on
-module _ (w : Setting) (side : IsLegalSide w) (order : Order) (fetched : List ℕ) (noted : List Item) (n0 : ℕ) (a b c : SourceSeen) (s t u : DecodingSeen) (f : Follows a b c s t u)
+module _ (w : Setting) (side : IsLegalSide w) (order : Order) (fetched : List ℕ) (noted : List Item) (n0 : ℕ) (a b c : SourceOver) (s t u : DecodingSeen) (f : Follows a b c s t u)
     (octets : List ℕ) (xs : List Item) (n1 : ℕ) (took : Took a s n0 octets xs n1) where
   abbrev pub then_went_taking : (q : Option Owed) (x : Stream) (n : ℕ) → WentOnTaking w side order (fetched ++ octets) (noted ++ xs) n1 b t q x n → WentOnTaking w side order fetched noted n0 c u q x n
   then_went_taking q x n g = record {

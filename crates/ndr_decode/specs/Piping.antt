@@ -7,7 +7,7 @@ use Rattle.std.specs.Prelude.{◌≡◌, ◌≤◌, ℕ, ◌+◌, ◌*◌, zero,
 use Rattle.std.specs.List.{slice_get}
 use Rattle.nd_base.specs.declared.octets.Order.{Order}
 use Rattle.nd_base.specs.declared.TheConstants.{STREAM_LIMIT}
-use Rattle.nd_base.specs.Over.{SourceSeen}
+use Rattle.nd_base.specs.Over.{SourceOver}
 use Rattle.nd_types.specs.declared.types.Side.{Side}
 use Rattle.nd_types.specs.declared.types.TypeId.{TypeId}
 use Rattle.nd_types.specs.declared.types.TypeDef.TheVariants as def
@@ -92,7 +92,7 @@ pub record IsBefore (w : Setting) (order : Order) (fetched : List ℕ) (noted : 
 
 -- a pipe more was read
 pub record PipeRead (w : Setting) (order : Order) (fetched : List ℕ) (noted : List Item) (direct : ℕ) (first : Names) (i : ℕ) (rs : List Root)
-    (roots : List Tree) (cells : ℕ) (source : SourceSeen) (t : DecodingSeen) (m : Machine) : Type 0 where
+    (roots : List Tree) (cells : ℕ) (source : SourceOver) (t : DecodingSeen) (m : Machine) : Type 0 where
   pub octets : List ℕ
   pub items : List Item
   pub v : Tree
@@ -100,14 +100,14 @@ pub record PipeRead (w : Setting) (order : Order) (fetched : List ℕ) (noted : 
   pub before : IsBefore w order (fetched ++ octets) (noted ++ items) direct first (i + 1) rs (roots ++ v ∷ []) k m
   pub took : Took source t cells octets items m.cells
 
-abbrev pub PipeComes : Setting → Order → List ℕ → List Item → ℕ → Names → ℕ → List Root → List Tree → ℕ → SourceSeen → DecodingSeen → Machine
+abbrev pub PipeComes : Setting → Order → List ℕ → List Item → ℕ → Names → ℕ → List Root → List Tree → ℕ → SourceOver → DecodingSeen → Machine
     → Result (Unit {0}) DecodeFault → Type 0
 PipeComes w order fetched noted direct first i rs roots cells source t m (Ok u) =
     PipeRead w order fetched noted direct first i rs roots cells source t m
 PipeComes w order fetched noted direct first i rs roots cells source t m (Err e) = FaultOf the_stream w order fetched noted cells source t e
 
 -- the next pipe, whose elements have the run at an address
-abbrev pub PipeReads : Plan → Order → ℕ → ℕ → Machine → SourceSeen → DecodingSeen → Machine → Result (Unit {0}) DecodeFault → Type 0
+abbrev pub PipeReads : Plan → Order → ℕ → ℕ → Machine → SourceOver → DecodingSeen → Machine → Result (Unit {0}) DecodeFault → Type 0
 PipeReads plan order i run m source t n result =
     (w : Setting) → IsLegalSide w
     → (fetched : List ℕ) (noted : List Item) (direct : ℕ) (first : Names) (r : Root) (rs : List Root) (roots : List Tree) (k : Position)
@@ -149,7 +149,7 @@ pub record IsInPipe (w : Setting) (order : Order) (fetched : List ℕ) (noted : 
 
 -- so many elements of the pipe were read
 pub record ElementsRead (w : Setting) (order : Order) (fetched : List ℕ) (noted : List Item) (direct : ℕ) (first : Names) (i : ℕ) (rs : List Root)
-    (roots : List Tree) (elem : TypeId) (cells : ℕ) (source : SourceSeen) (t : DecodingSeen) (m : Machine) (many : ℕ) : Type 0 where
+    (roots : List Tree) (elem : TypeId) (cells : ℕ) (source : SourceOver) (t : DecodingSeen) (m : Machine) (many : ℕ) : Type 0 where
   pub octets : List ℕ
   pub items : List Item
   pub done : Trees
@@ -159,7 +159,7 @@ pub record ElementsRead (w : Setting) (order : Order) (fetched : List ℕ) (note
   pub took : Took source t cells octets items m.cells
 
 -- after a chunk of no elements the pipe was read, after another one the pipe has so many more
-abbrev pub ChunkComes : Setting → Order → List ℕ → List Item → ℕ → Names → ℕ → List Root → List Tree → TypeId → ℕ → ℕ → SourceSeen → DecodingSeen
+abbrev pub ChunkComes : Setting → Order → List ℕ → List Item → ℕ → Names → ℕ → List Root → List Tree → TypeId → ℕ → ℕ → SourceOver → DecodingSeen
     → Machine → Result ℕ DecodeFault → Type 0
 ChunkComes w order fetched noted direct first i rs roots elem so_far cells source t m (Ok zero) =
     PipeRead w order fetched noted direct first i rs roots cells source t m
@@ -169,7 +169,7 @@ ChunkComes w order fetched noted direct first i rs roots elem so_far cells sourc
     FaultOf the_stream w order fetched noted cells source t e
 
 -- the next chunk
-abbrev pub ChunkReads : Plan → Order → ℕ → ℕ → ℕ → Machine → SourceSeen → DecodingSeen → Machine → Result ℕ DecodeFault → Type 0
+abbrev pub ChunkReads : Plan → Order → ℕ → ℕ → ℕ → Machine → SourceOver → DecodingSeen → Machine → Result ℕ DecodeFault → Type 0
 ChunkReads plan order i run so_far m source t n result =
     (w : Setting) → IsLegalSide w
     → (fetched : List ℕ) (noted : List Item) (direct : ℕ) (first : Names) (r : Root) (rs : List Root) (roots : List Tree) (elem : TypeId)
@@ -211,12 +211,12 @@ pub record IsAtPipes (plan : Plan) (o : ℕ) (side : Side) (order : Order) (x : 
   pub hold : TestsPass w order fetched noted direct (between_of x) s seen (parameter_tests w s)
 
 -- the stream was read to its end, or a fault came
-abbrev pub EndComes : Setting → Order → List ℕ → List Item → ℕ → SourceSeen → DecodingSeen → Stream → Result (Unit {0}) DecodeFault → Type 0
+abbrev pub EndComes : Setting → Order → List ℕ → List Item → ℕ → SourceOver → DecodingSeen → Stream → Result (Unit {0}) DecodeFault → Type 0
 EndComes w order fetched noted cells source t y (Ok u) = WasRead w order fetched noted cells source t y
 EndComes w order fetched noted cells source t y (Err e) = FaultOf the_stream w order fetched noted cells source t e
 
 -- all pipes of a side
-abbrev pub StreamEnds : Plan → ℕ → Side → Order → Stream → SourceSeen → DecodingSeen → Stream → Result (Unit {0}) DecodeFault → Type 0
+abbrev pub StreamEnds : Plan → ℕ → Side → Order → Stream → SourceOver → DecodingSeen → Stream → Result (Unit {0}) DecodeFault → Type 0
 StreamEnds plan o side order x source t y result =
     (w : Setting) (legal : IsLegalSide w) (fetched : List ℕ) (noted : List Item) (direct : ℕ) (s : Reading) (seen : List EntryAt)
     → IsSettingOf plan o side w

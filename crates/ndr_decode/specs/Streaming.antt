@@ -6,7 +6,7 @@ use Rattle.std.specs.Prelude.{◌≡◌, ◌≤◌, ℕ, ◌+◌, ◌*◌, suc, 
 use Rattle.std.specs.List.{slice_get}
 use Rattle.nd_base.specs.declared.octets.Order.{Order}
 use Rattle.nd_base.specs.declared.TheConstants.{STREAM_LIMIT}
-use Rattle.nd_base.specs.Over.{SourceSeen, HasRisen}
+use Rattle.nd_base.specs.Over.{SourceOver, HasRisen}
 use Rattle.nd_types.specs.Number.{AreOctets}
 use Rattle.nd_types.specs.declared.interface.Interface.{Interface}
 use Rattle.nd_types.specs.declared.types.Side.{Side}
@@ -140,7 +140,7 @@ pub record IsStreaming (plan : Plan) (order : Order) (x : Stream) : Type 0 where
 
 -- The value of a home is whole, at this state.
 pub record HomeWhole (order : Order) (table : Table) (h : Home) (own direct : ℕ) (target : List ℕ → Read) (fetched : List ℕ) (noted : List Item)
-    (cells : ℕ) (source : SourceSeen) (t : DecodingSeen) (s : State) : Type 0 where
+    (cells : ℕ) (source : SourceOver) (t : DecodingSeen) (s : State) : Type 0 where
   pub octets : List ℕ
   pub items : List Item
   pub all : AreOctets octets
@@ -150,7 +150,7 @@ pub record HomeWhole (order : Order) (table : Table) (h : Home) (own direct : �
   pub within : s.at ≤ STREAM_LIMIT
 
 -- It went on over so many octets more, and what is kept is right after them, with the referent that was taken, and so many roots left.
-pub record WentOnTaking (w : Setting) (side : IsLegalSide w) (order : Order) (fetched : List ℕ) (noted : List Item) (cells : ℕ) (source : SourceSeen)
+pub record WentOnTaking (w : Setting) (side : IsLegalSide w) (order : Order) (fetched : List ℕ) (noted : List Item) (cells : ℕ) (source : SourceOver)
     (t : DecodingSeen) (q : Option code.Owed) (x : Stream) (n : ℕ) : Type 0 where
   pub octets : List ℕ
   pub items : List Item
@@ -161,11 +161,11 @@ pub record WentOnTaking (w : Setting) (side : IsLegalSide w) (order : Order) (fe
   pub stands : StandsTaking w side order (fetched ++ octets) (noted ++ items) direct q x s seen ps n
   pub took : Took source t cells octets items (cells_of x)
 
-abbrev pub WentOn : (w : Setting) → IsLegalSide w → Order → List ℕ → List Item → ℕ → SourceSeen → DecodingSeen → Stream → ℕ → Type 0
+abbrev pub WentOn : (w : Setting) → IsLegalSide w → Order → List ℕ → List Item → ℕ → SourceOver → DecodingSeen → Stream → ℕ → Type 0
 WentOn w side order fetched noted cells source t x n = WentOnTaking w side order fetched noted cells source t None x n
 
 -- It read the stream to its end, whose graph is built.
-pub record WasRead (w : Setting) (order : Order) (fetched : List ℕ) (noted : List Item) (cells : ℕ) (source : SourceSeen) (t : DecodingSeen)
+pub record WasRead (w : Setting) (order : Order) (fetched : List ℕ) (noted : List Item) (cells : ℕ) (source : SourceOver) (t : DecodingSeen)
     (x : Stream) : Type 0 where
   pub octets : List ℕ
   pub items : List Item
@@ -180,29 +180,29 @@ pub record WasRead (w : Setting) (order : Order) (fetched : List ℕ) (noted : L
 
 -- a refusal is that of the stream, or of its head; where the source failed, the octets are cut short where they end; where memory failed, reading was
 -- cut off
-abbrev pub FaultOf : Extent → Setting → Order → List ℕ → List Item → ℕ → SourceSeen → DecodingSeen → DecodeFault → Type 0
+abbrev pub FaultOf : Extent → Setting → Order → List ℕ → List Item → ℕ → SourceOver → DecodingSeen → DecodeFault → Type 0
 FaultOf reach w order fetched noted cells source t (fault.Bad place why) = Refused reach w order fetched noted cells source t place why
 FaultOf reach w order fetched noted cells source t fault.ReadFault = Unread reach w order fetched noted cells source t × HasRisen source.faults
 FaultOf reach w order fetched noted cells source t fault.Memory = CutOff reach w order fetched noted cells source t
 
 -- a root, and its agreements
-abbrev pub Reads : (w : Setting) → IsLegalSide w → Order → List ℕ → List Item → ℕ → ℕ → SourceSeen → DecodingSeen → Stream
+abbrev pub Reads : (w : Setting) → IsLegalSide w → Order → List ℕ → List Item → ℕ → ℕ → SourceOver → DecodingSeen → Stream
     → Result (Unit {0}) DecodeFault → Type 0
 Reads w side order fetched noted cells n source t x (Ok u) = WentOn w side order fetched noted cells source t x n
 Reads w side order fetched noted cells n source t x (Err e) = FaultOf the_head w order fetched noted cells source t e
 
 -- a referent, and the agreements of its pointer, which may give the next of those that are pending
-abbrev pub ReadsTaking : (w : Setting) → IsLegalSide w → Order → List ℕ → List Item → ℕ → ℕ → SourceSeen → DecodingSeen → Stream
+abbrev pub ReadsTaking : (w : Setting) → IsLegalSide w → Order → List ℕ → List Item → ℕ → ℕ → SourceOver → DecodingSeen → Stream
     → Result (Option code.Owed) DecodeFault → Type 0
 ReadsTaking w side order fetched noted cells n source t x (Ok q) = WentOnTaking w side order fetched noted cells source t q x n
 ReadsTaking w side order fetched noted cells n source t x (Err e) = FaultOf the_head w order fetched noted cells source t e
 
 -- It went on until nothing was pending.
-abbrev pub WentThrough : (w : Setting) → IsLegalSide w → Order → List ℕ → List Item → ℕ → SourceSeen → DecodingSeen → Stream → ℕ → Type 0
+abbrev pub WentThrough : (w : Setting) → IsLegalSide w → Order → List ℕ → List Item → ℕ → SourceOver → DecodingSeen → Stream → ℕ → Type 0
 WentThrough w side order fetched noted cells source t x n = (g : WentOn w side order fetched noted cells source t x n) × (g.ps ≡ [])
 
 -- all that is pending
-abbrev pub ReadsAll : (w : Setting) → IsLegalSide w → Order → List ℕ → List Item → ℕ → ℕ → SourceSeen → DecodingSeen → Stream
+abbrev pub ReadsAll : (w : Setting) → IsLegalSide w → Order → List ℕ → List Item → ℕ → ℕ → SourceOver → DecodingSeen → Stream
     → Result (Unit {0}) DecodeFault → Type 0
 ReadsAll w side order fetched noted cells n source t x (Ok u) = WentThrough w side order fetched noted cells source t x n
 ReadsAll w side order fetched noted cells n source t x (Err e) = FaultOf the_head w order fetched noted cells source t e
@@ -211,7 +211,7 @@ ReadsAll w side order fetched noted cells n source t x (Err e) = FaultOf the_hea
 -- `x` is what is kept before the call, `y` what is kept after it, `result` its answer.
 
 -- the root that begins with an instruction
-abbrev pub RootReads : Plan → Order → Instr → Stream → SourceSeen → DecodingSeen → Stream → Result (Unit {0}) DecodeFault → Type 0
+abbrev pub RootReads : Plan → Order → Instr → Stream → SourceOver → DecodingSeen → Stream → Result (Unit {0}) DecodeFault → Type 0
 RootReads plan order i x source t y result =
     (w : Setting) (side : IsLegalSide w) (fetched : List ℕ) (noted : List Item) (direct : ℕ) (s : Reading) (seen : List EntryAt) (n : ℕ)
     → w.table ≡ plan.tie.types
@@ -220,14 +220,14 @@ RootReads plan order i x source t y result =
     → Reads w side order fetched noted (cells_of x) n source t y result
 
 -- the next of the pending referents
-abbrev pub ReferentReads : Plan → Order → code.Owed → Stream → SourceSeen → DecodingSeen → Stream → Result (Option code.Owed) DecodeFault → Type 0
+abbrev pub ReferentReads : Plan → Order → code.Owed → Stream → SourceOver → DecodingSeen → Stream → Result (Option code.Owed) DecodeFault → Type 0
 ReferentReads plan order o x source t y result =
     (w : Setting) (side : IsLegalSide w) (fetched : List ℕ) (noted : List Item) (direct : ℕ) (s : Reading) (seen : List EntryAt) (p : Pending)
     (ps : List Pending) (n : ℕ) → w.table ≡ plan.tie.types
     → StandsWith w side order fetched noted direct o x s seen p ps n → ReadsTaking w side order fetched noted (cells_of x) n source t y result
 
 -- all that is pending
-abbrev pub PendingReads : Plan → Order → Stream → SourceSeen → DecodingSeen → Stream → Result (Unit {0}) DecodeFault → Type 0
+abbrev pub PendingReads : Plan → Order → Stream → SourceOver → DecodingSeen → Stream → Result (Unit {0}) DecodeFault → Type 0
 PendingReads plan order x source t y result =
     (w : Setting) (side : IsLegalSide w) (fetched : List ℕ) (noted : List Item) (direct : ℕ) (s : Reading) (seen : List EntryAt) (ps : List Pending)
     (n : ℕ) → w.table ≡ plan.tie.types
@@ -240,7 +240,7 @@ pub record IsSettingOf (plan : Plan) (op : ℕ) (side : Side) (w : Setting) : Ty
   pub on : w.side ≡ side
 
 -- all roots that are no pipes
-abbrev pub RootsRead : Plan → Order → ℕ → Side → Stream → SourceSeen → DecodingSeen → Stream → Result Found DecodeFault → Type 0
+abbrev pub RootsRead : Plan → Order → ℕ → Side → Stream → SourceOver → DecodingSeen → Stream → Result Found DecodeFault → Type 0
 RootsRead plan order op side x source t y (Ok f) =
     (w : Setting) (legal : IsLegalSide w) → IsSettingOf plan op side w → WentThrough w legal order [] [] (cells_of x) source t y 0
 RootsRead plan order op side x source t y (Err e) =

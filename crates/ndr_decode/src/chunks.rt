@@ -1,7 +1,7 @@
 // Pipes, chunk by chunk.
 ghost use Rattle.std.specs.Prelude.{◌≡◌, ◌≤◌, ◌<◌, ◌+◌, ◌^◌, ℕ, List, Some, length, OnOk, IfOk};
 ghost use Rattle.std.specs.List.{slice_get};
-ghost use Rattle.nd_base.specs.Over.{source_seen};
+ghost use Rattle.nd_base.specs.Over.{source_over};
 ghost use Rattle.nd_types.specs.declared.types.Operation.{Operation};
 ghost use Rattle.nd_types.specs.Roots.{roots_of};
 ghost use Rattle.ndr_code.specs.Code.{value_roots, line_at};
@@ -34,10 +34,10 @@ pub(crate) fn read_pipes<S: Source, L: Ledger>(
     requires at { IsAtPipes plan.now op side order stream.old }
     requires line { (o : Operation) → slice_get plan.now.tie.operations op ≡ Some o
         → line ≡ line_at plan.now.tie.types plan.now.tie.operations op o side + length (value_roots (roots_of plan.now.tie.types side o)) + 1 }
-    ensures reads { StreamEnds plan.now op side order stream.old (source_seen S.Source.left S.Source.ended S.Source.faults source.old source.new)
+    ensures reads { StreamEnds plan.now op side order stream.old (source_over S.Source.seen source.old source.new)
         (decoding_seen items.old items.new (L.number steps.old) (L.number steps.new)) stream.new result }
     ensures same { OnOk result (purpose_of stream.new ≡ purpose_of stream.old) }
-    ensures later { S.Source.faults source.old ≤ S.Source.faults source.new }
+    ensures later { (S.Source.seen source.old).faults ≤ (S.Source.seen source.new).faults }
 {
     let mut number = stream.roots.as_slice().len() as u32;
     for next in line..plan.entries.len() {
@@ -96,10 +96,10 @@ fn read_pipe<S: Source, L: Ledger>(
     steps: &mut Steps<L>,
 ) -> Result<(), DecodeFault>
     requires at { IsAtPipe plan.now order number elem machine.old }
-    ensures reads { PipeReads plan.now order number elem machine.old (source_seen S.Source.left S.Source.ended S.Source.faults source.old source.new)
+    ensures reads { PipeReads plan.now order number elem machine.old (source_over S.Source.seen source.old source.new)
         (decoding_seen items.old items.new (L.number steps.old) (L.number steps.new)) machine.new result }
     ensures same { OnOk result (purpose_in machine.new ≡ purpose_in machine.old) }
-    ensures later { S.Source.faults source.old ≤ S.Source.faults source.new }
+    ensures later { (S.Source.seen source.old).faults ≤ (S.Source.seen source.new).faults }
 {
     open_pipe(machine, number, elem)?;
     let mut so_far: u32 = 0;
@@ -133,11 +133,11 @@ fn read_chunk<S: Source, L: Ledger>(
     requires at { IsAtChunk plan.now order number elem so_far machine.old }
     requires room { so_far + 1 < 2 ^ 32 }
     ensures reads { ChunkReads plan.now order number elem so_far machine.old
-        (source_seen S.Source.left S.Source.ended S.Source.faults source.old source.new)
+        (source_over S.Source.seen source.old source.new)
         (decoding_seen items.old items.new (L.number steps.old) (L.number steps.new)) machine.new result }
     ensures room { IfOk result (λ count. so_far + count + 1 < 2 ^ 32) }
     ensures same { OnOk result (purpose_in machine.new ≡ purpose_in machine.old) }
-    ensures later { S.Source.faults source.old ≤ S.Source.faults source.new }
+    ensures later { (S.Source.seen source.old).faults ≤ (S.Source.seen source.new).faults }
 {
     let count = chunk_count(order, machine, intake, source, items, steps)?;
     if count == 0 {

@@ -1,7 +1,7 @@
 // Decoding of a side of an operation.
 ghost use Rattle.std.specs.Prelude.{◌≡◌, ℕ, ◌+◌, ◌≤◌, ◌<◌, [], Some, length, option_map, IfOk, IfErr, IsErrOf, OnOk};
 ghost use Rattle.std.specs.List.{slice_get};
-ghost use Rattle.nd_base.specs.Over.{source_seen, HasRisen, count};
+ghost use Rattle.nd_base.specs.Over.{source_over, HasRisen};
 ghost use Rattle.nd_types.specs.declared.types.Operation.{Operation};
 ghost use Rattle.nd_value.specs.Fitting.{IsFit, setting_beside};
 ghost use Rattle.nd_value.specs.Request.{IsRequestOf};
@@ -73,20 +73,20 @@ pub fn decode<S: Source, L: Ledger>(
     requires request { IsRequestOf plan.now.tie op side (option_map (λ f. f.now) given) }
     ensures decoded { IfOk result (λ d. (o : Operation) → slice_get plan.now.tie.operations op ≡ Some o
         → IsDecoded (setting_beside plan.now.tie o side (option_map (λ f. f.now.graph) given.entry)) order
-        (source_seen S.Source.left S.Source.ended S.Source.faults source.old source.new) d.taken d.fit.graph
+        (source_over S.Source.seen source.old source.new) d.taken d.fit.graph
         (decoding_seen items.old items.new (L.number steps.old) (L.number steps.new))) }
     ensures of { IfOk result (λ d. (d.fit.op ≡ op) × (d.fit.side ≡ side) × (d.fit.interface ≡ plan.now.tie)) }
     ensures beside { IfOk result (λ d. d.fit.given ≡ option_map (λ f. f.now.graph) given.entry) }
     ensures fault { IfErr result (λ e. (o : Operation) → slice_get plan.now.tie.operations op ≡ Some o
         → IsFault (setting_beside plan.now.tie o side (option_map (λ f. f.now.graph) given.entry)) order
-        (source_seen S.Source.left S.Source.ended S.Source.faults source.old source.new) e
+        (source_over S.Source.seen source.old source.new) e
         (decoding_seen items.old items.new (L.number steps.old) (L.number steps.new))) }
     ensures in_order { IfErr result (λ e. (o : Operation) → slice_get plan.now.tie.operations op ≡ Some o
         → IsInOrder (setting_beside plan.now.tie o side (option_map (λ f. f.now.graph) given.entry)) order
-        (source_seen S.Source.left S.Source.ended S.Source.faults source.old source.new) e
+        (source_over S.Source.seen source.old source.new) e
         (decoding_seen items.old items.new (L.number steps.old) (L.number steps.new))) }
-    ensures read_fault { IsErrOf result ReadFault → HasRisen (count S.Source.faults source.old source.new) }
-    ensures later { S.Source.faults source.old ≤ S.Source.faults source.new }
+    ensures read_fault { IsErrOf result ReadFault → HasRisen (source_over S.Source.seen source.old source.new).faults }
+    ensures later { (S.Source.seen source.old).faults ≤ (S.Source.seen source.new).faults }
 {
     // A request conforms to the inputs of the operation.
     let _request = Given::beside(given);
@@ -125,10 +125,10 @@ fn read_side<S: Source, L: Ledger>(
     requires begins { Begins (between_of stream.old) }
     requires whole { CanClose stream.old.machine.builder }
     ensures reads { (w : Setting) → IsLegalSide w → IsSettingOf plan.now op side w → w.given ≡ option_map (λ f. f.now.graph) given.entry
-        → EndComes w order [] [] (cells_of stream.old) (source_seen S.Source.left S.Source.ended S.Source.faults source.old source.new)
+        → EndComes w order [] [] (cells_of stream.old) (source_over S.Source.seen source.old source.new)
         (decoding_seen items.old items.new (L.number steps.old) (L.number steps.new)) stream.new result }
     ensures same { OnOk result (purpose_of stream.new ≡ purpose_of stream.old) }
-    ensures later { S.Source.faults source.old ≤ S.Source.faults source.new }
+    ensures later { (S.Source.seen source.old).faults ≤ (S.Source.seen source.new).faults }
 {
     let found = read_roots(plan, op, side, order, stream, intake, source, items, steps)?;
     let checks = found.checks as usize;

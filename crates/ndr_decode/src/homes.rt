@@ -1,6 +1,6 @@
 // The value of a home.
 ghost use Rattle.std.specs.Prelude.{◌≡◌, ◌≤◌, ℕ, List, OnOk};
-ghost use Rattle.nd_base.specs.Over.{source_seen};
+ghost use Rattle.nd_base.specs.Over.{source_over};
 ghost use Rattle.nd_value.specs.declared.item.Item.{Item};
 ghost use Rattle.ndr_decoder_laws.specs.runs.Reaching.{IsSafe, Reaches};
 ghost use Rattle.ndr_decoder_value.specs.Reaching.{Ends};
@@ -28,10 +28,10 @@ pub fn read_home<S: Source, L: Ledger>(
     requires safe { (fetched : List ℕ) (noted : List Item) (s : State)
         → Reaches plan.now.values order plan.now.code machine.old.home (state_of machine.old) fetched noted s → IsSafe plan.now.code s }
     ensures ends { Ends plan.now.values order plan.now.code machine.old.home (state_of machine.old)
-        (source_seen S.Source.left S.Source.ended S.Source.faults source.old source.new)
+        (source_over S.Source.seen source.old source.new)
         (notes_seen items.old items.new (L.number steps.old) (L.number steps.new) machine.old.cells machine.new.cells) (state_of machine.new) result }
     ensures outside { OnOk result (outside machine.new ≡ outside machine.old) }
-    ensures later { S.Source.faults source.old ≤ S.Source.faults source.new }
+    ensures later { (S.Source.seen source.old).faults ≤ (S.Source.seen source.new).faults }
 {
     run(
         order,

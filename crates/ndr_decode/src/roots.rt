@@ -1,7 +1,7 @@
 // The roots that are no pipes.
 ghost use Rattle.std.specs.Prelude.{◌≡◌, ◌≤◌, ◌<◌, ◌+◌, Some, length, OnOk, IfOk};
 ghost use Rattle.std.specs.List.{slice_get};
-ghost use Rattle.nd_base.specs.Over.{source_seen};
+ghost use Rattle.nd_base.specs.Over.{source_over};
 ghost use Rattle.nd_types.specs.declared.types.Operation.{Operation};
 ghost use Rattle.nd_types.specs.Roots.{roots_of};
 ghost use Rattle.nd_flat.specs.Building.{CanClose};
@@ -44,14 +44,14 @@ pub fn read_roots<S: Source, L: Ledger>(
     requires known { op < length plan.now.tie.operations }
     requires begins { Begins (between_of stream.old) }
     requires whole { CanClose stream.old.machine.builder }
-    ensures reads { RootsRead plan.now order op side stream.old (source_seen S.Source.left S.Source.ended S.Source.faults source.old source.new)
+    ensures reads { RootsRead plan.now order op side stream.old (source_over S.Source.seen source.old source.new)
         (decoding_seen items.old items.new (L.number steps.old) (L.number steps.new)) stream.new result }
     ensures found { IfOk result
         (λ f. (o : Operation) → slice_get plan.now.tie.operations op ≡ Some o
         → (f.checks ≡ checks_at plan.now.tie.types plan.now.tie.operations op o side)
         × (f.line ≡ line_at plan.now.tie.types plan.now.tie.operations op o side + length (value_roots (roots_of plan.now.tie.types side o)) + 1)) }
     ensures same { OnOk result (purpose_of stream.new ≡ purpose_of stream.old) }
-    ensures later { S.Source.faults source.old ≤ S.Source.faults source.new }
+    ensures later { (S.Source.seen source.old).faults ≤ (S.Source.seen source.new).faults }
 {
     let lines = plan.entries.as_slice();
     for number in first_line(plan, op, side)..lines.len() {
@@ -108,10 +108,10 @@ fn read_root<S: Source, L: Ledger>(
 ) -> Result<(), DecodeFault>
     requires next { (i : Instr) × ((slice_get plan.now.code at ≡ Some i) × IsAtRoot plan.now order stream.old i) }
     ensures reads { (i : Instr) → slice_get plan.now.code at ≡ Some i
-        → RootReads plan.now order i stream.old (source_seen S.Source.left S.Source.ended S.Source.faults source.old source.new)
+        → RootReads plan.now order i stream.old (source_over S.Source.seen source.old source.new)
         (decoding_seen items.old items.new (L.number steps.old) (L.number steps.new)) stream.new result }
     ensures same { OnOk result (purpose_of stream.new ≡ purpose_of stream.old) }
-    ensures later { S.Source.faults source.old ≤ S.Source.faults source.new }
+    ensures later { (S.Source.seen source.old).faults ≤ (S.Source.seen source.new).faults }
 {
     match plan.code.as_slice()[at as usize] {
         Code::Direct { to, run } => {
@@ -136,10 +136,10 @@ fn read_direct<S: Source, L: Ledger>(
 ) -> Result<(), DecodeFault>
     requires next { IsAtRoot plan.now order stream.old (op.Direct to run) }
     ensures reads { RootReads plan.now order (op.Direct to run) stream.old
-        (source_seen S.Source.left S.Source.ended S.Source.faults source.old source.new)
+        (source_over S.Source.seen source.old source.new)
         (decoding_seen items.old items.new (L.number steps.old) (L.number steps.new)) stream.new result }
     ensures same { OnOk result (purpose_of stream.new ≡ purpose_of stream.old) }
-    ensures later { S.Source.faults source.old ≤ S.Source.faults source.new }
+    ensures later { (S.Source.seen source.old).faults ≤ (S.Source.seen source.new).faults }
 {
     let cell = stream.open_reference(to, run, steps)?;
     read_home(
@@ -165,10 +165,10 @@ fn read_placed<S: Source, L: Ledger>(
     steps: &mut Steps<L>,
 ) -> Result<(), DecodeFault>
     requires next { IsAtRoot plan.now order stream.old (op.Call run) }
-    ensures reads { RootReads plan.now order (op.Call run) stream.old (source_seen S.Source.left S.Source.ended S.Source.faults source.old source.new)
+    ensures reads { RootReads plan.now order (op.Call run) stream.old (source_over S.Source.seen source.old source.new)
         (decoding_seen items.old items.new (L.number steps.old) (L.number steps.new)) stream.new result }
     ensures same { OnOk result (purpose_of stream.new ≡ purpose_of stream.old) }
-    ensures later { S.Source.faults source.old ≤ S.Source.faults source.new }
+    ensures later { (S.Source.seen source.old).faults ≤ (S.Source.seen source.new).faults }
 {
     stream.open_root(run)?;
     read_home(

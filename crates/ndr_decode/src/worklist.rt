@@ -1,6 +1,6 @@
 // Pending referents.
 ghost use Rattle.std.specs.Prelude.{◌≡◌, ◌≤◌, ◌+◌, Some, None, [], length, map, OnOk, IfOk, IfSome, IfNone};
-ghost use Rattle.nd_base.specs.Over.{source_seen};
+ghost use Rattle.nd_base.specs.Over.{source_over};
 ghost use Rattle.nd_types.specs.declared.types.Class.TheVariants.{Full};
 ghost use Rattle.ndr_decoder_state.specs.Seen.{agreement_of, owed_of};
 ghost use Rattle.nd_grammar.specs.decoded.Verdict.{decoding_seen};
@@ -29,10 +29,10 @@ pub(crate) fn read_pending<S: Source, L: Ledger>(
     steps: &mut Steps<L>,
 ) -> Result<(), DecodeFault>
     requires streaming { IsStreaming plan.now order stream.old }
-    ensures reads { PendingReads plan.now order stream.old (source_seen S.Source.left S.Source.ended S.Source.faults source.old source.new)
+    ensures reads { PendingReads plan.now order stream.old (source_over S.Source.seen source.old source.new)
         (decoding_seen items.old items.new (L.number steps.old) (L.number steps.new)) stream.new result }
     ensures same { OnOk result (purpose_of stream.new ≡ purpose_of stream.old) }
-    ensures later { S.Source.faults source.old ≤ S.Source.faults source.new }
+    ensures later { (S.Source.seen source.old).faults ≤ (S.Source.seen source.new).faults }
 {
     let mut next = None;
     // Each turn takes one of the referents that are pending, and for each that becomes pending four octets are read.
@@ -75,12 +75,12 @@ fn read_owed<S: Source, L: Ledger>(
 ) -> Result<Option<Owed>, DecodeFault>
     requires next { IsAtReferent plan.now order owed stream.old }
     requires within { owed.from + owed.len ≤ length stream.old.wanted.items }
-    ensures reads { ReferentReads plan.now order owed stream.old (source_seen S.Source.left S.Source.ended S.Source.faults source.old source.new)
+    ensures reads { ReferentReads plan.now order owed stream.old (source_over S.Source.seen source.old source.new)
         (decoding_seen items.old items.new (L.number steps.old) (L.number steps.new)) stream.new result }
     ensures given { IfOk result (λ q. IfSome q (λ o. o.from + o.len ≤ length stream.new.wanted.items)) }
     ensures paid { IfOk result (λ q. ArePaid stream.old q stream.new) }
     ensures same { OnOk result (purpose_of stream.new ≡ purpose_of stream.old) }
-    ensures later { S.Source.faults source.old ≤ S.Source.faults source.new }
+    ensures later { (S.Source.seen source.old).faults ≤ (S.Source.seen source.new).faults }
 {
     let Some(cell) = owed.cell else {
         return Ok(None);
@@ -113,12 +113,12 @@ fn read_referent<S: Source, L: Ledger>(
     requires within { owed.from + owed.len ≤ length stream.old.wanted.items }
     requires cell { owed.cell ≡ Some cell }
     requires unread { owed.class ≡ Full → kept_at stream.old.cells.items cell.0 ≡ None }
-    ensures reads { ReferentReads plan.now order owed stream.old (source_seen S.Source.left S.Source.ended S.Source.faults source.old source.new)
+    ensures reads { ReferentReads plan.now order owed stream.old (source_over S.Source.seen source.old source.new)
         (decoding_seen items.old items.new (L.number steps.old) (L.number steps.new)) stream.new result }
     ensures given { IfOk result (λ q. IfSome q (λ o. o.from + o.len ≤ length stream.new.wanted.items)) }
     ensures paid { IfOk result (λ q. ArePaid stream.old q stream.new) }
     ensures same { OnOk result (purpose_of stream.new ≡ purpose_of stream.old) }
-    ensures later { S.Source.faults source.old ≤ S.Source.faults source.new }
+    ensures later { (S.Source.seen source.old).faults ≤ (S.Source.seen source.new).faults }
 {
     stream.open_cell(cell, owed.run);
     read_home(

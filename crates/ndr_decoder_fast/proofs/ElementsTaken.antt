@@ -7,7 +7,7 @@ use Rattle.std.proofs.lemmas.Option.{slice_get_within}
 use Rattle.std.specs.Io.KnownBytes.{Consumes}
 use Rattle.nd_base.specs.declared.octets.Order.{Order}
 use Rattle.nd_base.specs.declared.TheConstants.{STREAM_LIMIT}
-use Rattle.nd_base.specs.Over.{SourceSeen}
+use Rattle.nd_base.specs.Over.{SourceOver}
 use Rattle.nd_types.specs.declared.types.Primitive.{Primitive}
 use Rattle.nd_types.specs.Number.{AreOctets}
 use Rattle.nd_types.specs.Table.{width}
@@ -84,7 +84,7 @@ module _ (values : List EnumList) (order : Order) (code : List Instr) (h : Home)
       omega (arith, e, same)
 
   -- all of them were read
-  pub elements_leapt : (source : SourceSeen) (s1 : State) (n steps steps_now : ℕ) → AreElements code s ps count len → AreOctets os → length os ≡ len
+  pub elements_leapt : (source : SourceOver) (s1 : State) (n steps steps_now : ℕ) → AreElements code s ps count len → AreOctets os → length os ≡ len
       → Consumes source.left source.left_now os → n ≡ length ps
       → goes (records_read (s.pc + 2 + n) (s.at + length os) (records_flats order ps count os) (with_fewer (count - 1) s.top) s) ≡ goes s1
       → steps_now ≡ steps + count * n → Leapt values order code h s source steps steps_now s1
@@ -125,7 +125,7 @@ handed_on : (r : Result Bool LeapFault) (e : LeapFault) → IsErrAnd r (λ y. y 
 handed_on (Ok t) e h = absurd h
 handed_on (Err y) e h = ap Err h
 
-pub given_up : (values : List EnumList) (order : Order) (code : List Instr) (h : Home) (s s1 : State) (source : SourceSeen) (os : List ℕ) (steps steps_now : ℕ)
+pub given_up : (values : List EnumList) (order : Order) (code : List Instr) (h : Home) (s s1 : State) (source : SourceOver) (os : List ℕ) (steps steps_now : ℕ)
     (r : Result Bool LeapFault) (e : LeapFault) → IsErrAnd r (λ y. y ≡ e) → e ≡ leap.Memory → AreOctets os → Consumes source.left source.left_now os → steps_now ≤ steps
     → Leaps values order code h s source steps steps_now s1 r
 given_up values order code h s s1 source os steps steps_now r e err memory octets left counted =

@@ -5,7 +5,7 @@ use Rattle.std.proofs.KnownBytes.{Consumes-trans, Consumes-nil}
 use Rattle.std.specs.Prelude.{slice_get, Bool}
 use Rattle.std.specs.Io.KnownBytes.{Consumes}
 use Rattle.nd_base.specs.declared.octets.Order.{Order}
-use Rattle.nd_base.specs.Over.{SourceSeen}
+use Rattle.nd_base.specs.Over.{SourceOver}
 use Rattle.nd_value.specs.declared.item.Home.{Home}
 use Rattle.nd_value.specs.declared.item.Item.{Item}
 use Rattle.nd_grammar.specs.declared.reason.Reason.{Reason}
@@ -24,7 +24,7 @@ use Rattle.ndr_decoder_fast.specs.Leaps.{Leapt, GivesUp, Refuses}
 use Rattle.ndr_decoder_fast.specs.Strings.{HasCome, GoesFar}
 
 -- a source over a call
-abbrev pub source : Option (List ℕ) → Option (List ℕ) → Bool → ℕ → ℕ → SourceSeen
+abbrev pub source : Option (List ℕ) → Option (List ℕ) → Bool → ℕ → ℕ → SourceOver
 source left left_now ended before now = record { left = left; left_now = left_now; ended = ended; faults = record { before = before; now = now } }
 
 pub ticks_on : (xs ys : List Item) → ticks (xs ++ ys) ≡ ticks xs + ticks ys
@@ -99,7 +99,7 @@ module _ (values : List EnumList) (order : Order) (code : List Instr) (h : Home)
 -- ## One step, or none
 
 module _ (values : List EnumList) (order : Order) (code : List Instr) (h : Home) (l0 l1 : Option (List ℕ)) (e : Bool) (f0 f1 k0 k1 : ℕ) (s0 s1 : State) where
-  abbrev Src : SourceSeen
+  abbrev Src : SourceOver
   Src = source l0 l1 e f0 f1
 
   -- no octets came

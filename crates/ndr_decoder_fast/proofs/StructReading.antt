@@ -4,7 +4,7 @@ use Rattle.std.proofs.Common.{◌≡◌, ◌≤◌, ◌<◌, ◌^◌, ℕ, ◌+�
 use Rattle.std.specs.Prelude.{Bool, true, false, take, drop, slice_get}
 use Rattle.std.proofs.lemmas.Option.{same_Some, slice_get_within}
 use Rattle.std.specs.Io.KnownBytes.{Consumes}
-use Rattle.nd_base.specs.Over.{SourceSeen}
+use Rattle.nd_base.specs.Over.{SourceOver}
 use Rattle.nd_base.specs.declared.octets.Memory.{Memory}
 use Rattle.nd_base.specs.declared.octets.Order.{Order}
 use Rattle.nd_base.specs.declared.TheConstants.{STREAM_LIMIT}
@@ -232,7 +232,7 @@ rest_octets : (xs ys : List ℕ) → AreOctets (xs ++ ys) → AreOctets ys
 rest_octets [] ys a = a
 rest_octets (x ∷ xs) ys a = rest_octets xs ys a.1
 
-module _ (values : List EnumList) (order : Order) (code : List Instr) (h : Home) (s0 : State) (source : SourceSeen) (steps : ℕ) (os : List ℕ) (left : Consumes source.left source.left_now os) where
+module _ (values : List EnumList) (order : Order) (code : List Instr) (h : Home) (s0 : State) (source : SourceOver) (steps : ℕ) (os : List ℕ) (left : Consumes source.left source.left_now os) where
   pub struct_stopped : AreOctets os → (steps_now : ℕ) (s s1 : State) (e : Memory) (r : Result Bool Memory) → IsStopped values order code h s0 steps os steps_now → IsErrAnd r (λ y. y ≡ e)
       → LeapsOrGivesUp values order code h s0 source steps steps_now s1 r
   struct_stopped octets steps_now s s1 e (Ok b) x is = absurd is
@@ -249,7 +249,7 @@ module _ (values : List EnumList) (order : Order) (code : List Instr) (h : Home)
       }
 
 -- what comes of a struct is what a leap comes to
-module _ (values : List EnumList) (order : Order) (code : List Instr) (h : Home) (s0 : State) (source : SourceSeen) (steps steps_now : ℕ) (s1 : State) where
+module _ (values : List EnumList) (order : Order) (code : List Instr) (h : Home) (s0 : State) (source : SourceOver) (steps steps_now : ℕ) (s1 : State) where
   pub leaps_on : (b : Bool) → LeapsOrGivesUp values order code h s0 source steps steps_now s1 (Ok b) → Leaps values order code h s0 source steps steps_now s1 (Ok b)
   leaps_on true x = x
   leaps_on false x = x

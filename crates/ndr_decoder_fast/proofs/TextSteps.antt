@@ -6,7 +6,7 @@ use Rattle.std.proofs.lemmas.Bool.Decides.{nat_tests}
 use Rattle.std.specs.Prelude.{slice_get, Bool, eqb, ltb, if◌then◌else◌}
 use Rattle.nd_base.specs.declared.octets.Order.{Order}
 use Rattle.nd_base.specs.declared.TheConstants.{STREAM_LIMIT}
-use Rattle.nd_base.specs.Over.{SourceSeen}
+use Rattle.nd_base.specs.Over.{SourceOver}
 use Rattle.nd_value.specs.declared.item.Home.{Home}
 use Rattle.nd_value.specs.Tree as tree
 use Rattle.nd_grammar.specs.declared.reason.Reason.{Reason}
@@ -28,7 +28,7 @@ use Rattle.ndr_decoder_fast.specs.Strings.{HasCome, CountCame, ReadsText, TextDo
 use Rattle.ndr_decoder_fast.proofs.Going.{source, far_on, not_far, one_step, refused_here, given_up}
 
 module _ (order : Order) (bound : ℕ) (l0 l1 : Option (List ℕ)) (e : Bool) (f0 f1 : ℕ) (s0 : State) where
-  abbrev Src : SourceSeen
+  abbrev Src : SourceOver
   Src = source l0 l1 e f0 f1
 
   -- ## Nothing came

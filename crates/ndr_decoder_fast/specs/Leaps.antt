@@ -4,7 +4,7 @@ use Rattle.std.specs.Prelude.{◌≡◌, ◌≤◌, ℕ, ◌+◌, true, false, B
 use Rattle.std.specs.Io.KnownBytes.{Consumes}
 use Rattle.nd_base.specs.declared.octets.Memory.{Memory}
 use Rattle.nd_base.specs.declared.octets.Order.{Order}
-use Rattle.nd_base.specs.Over.{SourceSeen}
+use Rattle.nd_base.specs.Over.{SourceOver}
 use Rattle.nd_types.specs.Number.{AreOctets}
 use Rattle.nd_value.specs.declared.item.Home.{Home}
 use Rattle.nd_value.specs.declared.item.Item.{Item}
@@ -19,7 +19,7 @@ use Rattle.ndr_decoder_fast.specs.declared.fault.LeapFault.TheVariants as leap
 use Rattle.ndr_decoder_fast.specs.Faults.{reason_of}
 use Rattle.ndr_decoder_state.specs.Notes.{ticks}
 
-module _ (values : List EnumList) (order : Order) (code : List Instr) (h : Home) (s0 : State) (source : SourceSeen) (steps steps_now : ℕ)
+module _ (values : List EnumList) (order : Order) (code : List Instr) (h : Home) (s0 : State) (source : SourceOver) (steps steps_now : ℕ)
     (s1 : State) where
   -- so many octets were taken from the source by steps; each of their items but the gaps is counted, and each cell that got its number
   pub record Leapt : Type 0 where
@@ -75,7 +75,7 @@ module _ (values : List EnumList) (order : Order) (code : List Instr) (h : Home)
   LeapsOrGivesUp (Err e) = GivesUp
 
 -- One step of an instruction was taken, or nothing was done, whatever the code is, where the instruction is at the state's address; or memory failed.
-abbrev pub TakesStep : Order → Instr → State → SourceSeen → ℕ → ℕ → State → Result Bool Memory → Type 0
+abbrev pub TakesStep : Order → Instr → State → SourceOver → ℕ → ℕ → State → Result Bool Memory → Type 0
 TakesStep order i s0 source steps steps_now s1 r =
     (values : List EnumList) (code : List Instr) (h : Home) → slice_get code s0.pc ≡ Some i
     → LeapsOrGivesUp values order code h s0 source steps steps_now s1 r

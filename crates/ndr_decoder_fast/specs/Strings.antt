@@ -4,7 +4,7 @@ use Rattle.std.specs.Prelude.{◌≡◌, ◌≤◌, ℕ, ◌+◌, ◌==◌, if�
 use Rattle.std.specs.Io.KnownBytes.{Consumes}
 use Rattle.nd_base.specs.declared.octets.Order.{Order}
 use Rattle.nd_base.specs.declared.TheConstants.{STREAM_LIMIT}
-use Rattle.nd_base.specs.Over.{SourceSeen}
+use Rattle.nd_base.specs.Over.{SourceOver}
 use Rattle.nd_types.specs.Number.{AreOctets, unsigned}
 use Rattle.nd_value.specs.declared.item.Home.{Home}
 use Rattle.ndr_code.specs.declared.instr.Instr.{Instr}
@@ -62,14 +62,14 @@ max_read gap max run s = jumped (run + 1) (past 4 begun (with_max max (past gap 
 -- ## What comes of a string
 
 -- some of its steps were taken, or none; memory failed; or its octets are refused
-abbrev pub GoesFar : List EnumList → Order → List Instr → Home → State → SourceSeen → ℕ → ℕ → State → Result (Unit {0}) LeapFault → Type 0
+abbrev pub GoesFar : List EnumList → Order → List Instr → Home → State → SourceOver → ℕ → ℕ → State → Result (Unit {0}) LeapFault → Type 0
 GoesFar values order code h s0 source steps steps_now s1 (Ok u) = Leapt values order code h s0 source steps steps_now s1
 GoesFar values order code h s0 source steps steps_now s1 (Err (leap.Bad place why)) =
     Refuses values order code h s0 source steps steps_now s1 place (reason_of why)
 GoesFar values order code h s0 source steps steps_now s1 (Err leap.Memory) = GivesUp values order code h s0 source steps steps_now s1
 
 -- the same, whatever the code, where it has this `text`
-abbrev pub ReadsText : Order → ℕ → State → SourceSeen → ℕ → ℕ → State → Result (Unit {0}) LeapFault → Type 0
+abbrev pub ReadsText : Order → ℕ → State → SourceOver → ℕ → ℕ → State → Result (Unit {0}) LeapFault → Type 0
 ReadsText order bound s0 source steps steps_now s1 r =
     (values : List EnumList) (code : List Instr) (h : Home) → slice_get code s0.pc ≡ Some (op.Text bound)
     → GoesFar values order code h s0 source steps steps_now s1 r

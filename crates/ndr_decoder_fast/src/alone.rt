@@ -1,6 +1,6 @@
 // Gaps, numbers and pointers by themselves.
 ghost use Rattle.std.specs.Prelude.{◌≡◌, ◌<◌, ◌≤◌, ◌+◌, ◌^◌, ℕ, true, length, None, OnOk, Ok};
-ghost use Rattle.nd_base.specs.Over.{source_seen};
+ghost use Rattle.nd_base.specs.Over.{source_over};
 ghost use Rattle.nd_base.specs.declared.TheConstants.{STREAM_LIMIT};
 ghost use Rattle.nd_base.specs.declared.octets.Order.{Order as OrderValue};
 ghost use Rattle.nd_types.specs.Number.{value_of_octets};
@@ -39,10 +39,10 @@ pub fn leap_alone<S: Source, L: Ledger>(
     requires within { machine.old.at ≤ STREAM_LIMIT }
     requires few { machine.old.count + 1 < 2 ^ 32 }
     requires cells { machine.old.cells + 1 < 2 ^ 32 }
-    ensures takes { TakesStep order instr (state_of machine.old) (source_seen S.Source.left S.Source.ended S.Source.faults source.old source.new)
+    ensures takes { TakesStep order instr (state_of machine.old) (source_over S.Source.seen source.old source.new)
         (L.number steps.old) (L.number steps.new) (state_of machine.new) result }
     ensures outside { OnOk result (outside machine.new ≡ outside machine.old) }
-    ensures faults { S.Source.faults source.new ≡ S.Source.faults source.old }
+    ensures faults { (S.Source.seen source.new).faults ≡ (S.Source.seen source.old).faults }
 {
     match instr {
         Instr::Align { to } => Ok(take_gap(machine, to, source)),
@@ -78,9 +78,9 @@ fn take_gap<S: Source>(machine: &mut Machine, to: u8, source: &mut S) -> bool
     requires code { machine.old.pc < 2 ^ 32 }
     requires within { machine.old.at ≤ STREAM_LIMIT }
     ensures takes { (order : OrderValue) (steps : ℕ) → TakesStep order (op.Align to) (state_of machine.old)
-        (source_seen S.Source.left S.Source.ended S.Source.faults source.old source.new) steps steps (state_of machine.new) (Ok result) }
+        (source_over S.Source.seen source.old source.new) steps steps (state_of machine.new) (Ok result) }
     ensures outside { outside machine.new ≡ outside machine.old }
-    ensures faults { S.Source.faults source.new ≡ S.Source.faults source.old }
+    ensures faults { (S.Source.seen source.new).faults ≡ (S.Source.seen source.old).faults }
 {
     let gap = gap_to(machine.at, to);
     if gap > MOST {
@@ -107,10 +107,10 @@ fn take_number<S: Source, L: Ledger>(
     requires within { machine.old.at ≤ STREAM_LIMIT }
     requires few { machine.old.count + 1 < 2 ^ 32 }
     ensures takes { TakesStep order (op.Num of) (state_of machine.old)
-        (source_seen S.Source.left S.Source.ended S.Source.faults source.old source.new) (L.number steps.old) (L.number steps.new)
+        (source_over S.Source.seen source.old source.new) (L.number steps.old) (L.number steps.new)
         (state_of machine.new) result }
     ensures outside { OnOk result (outside machine.new ≡ outside machine.old) }
-    ensures faults { S.Source.faults source.new ≡ S.Source.faults source.old }
+    ensures faults { (S.Source.seen source.new).faults ≡ (S.Source.seen source.old).faults }
 {
     let left = STREAM_LIMIT - machine.at;
     if left < MOST {
@@ -157,10 +157,10 @@ fn take_pointer<S: Source, L: Ledger>(
     requires few { machine.old.count + 1 < 2 ^ 32 }
     requires cells { machine.old.cells + 1 < 2 ^ 32 }
     ensures takes { TakesStep order (op.Pointer class to run) (state_of machine.old)
-        (source_seen S.Source.left S.Source.ended S.Source.faults source.old source.new) (L.number steps.old) (L.number steps.new)
+        (source_over S.Source.seen source.old source.new) (L.number steps.old) (L.number steps.new)
         (state_of machine.new) result }
     ensures outside { OnOk result (outside machine.new ≡ outside machine.old) }
-    ensures faults { S.Source.faults source.new ≡ S.Source.faults source.old }
+    ensures faults { (S.Source.seen source.new).faults ≡ (S.Source.seen source.old).faults }
 {
     if !is_alone(machine, class) {
         return Ok(false);

@@ -1,6 +1,6 @@
 // Which steps are taken in one go.
 ghost use Rattle.std.specs.Prelude.{◌≡◌, ◌<◌, ◌≤◌, ◌^◌, ℕ, List, Some, length, slice_get, OnOk};
-ghost use Rattle.nd_base.specs.Over.{source_seen};
+ghost use Rattle.nd_base.specs.Over.{source_over};
 ghost use Rattle.nd_value.specs.declared.item.Item.{Item};
 ghost use Rattle.ndr_code.specs.declared.instr.Instr.TheVariants as op;
 ghost use Rattle.ndr_decoder_laws.specs.steps.Steps.{State};
@@ -41,10 +41,10 @@ pub fn leap<S: Source, L: Ledger>(
     requires safe { (fetched : List ℕ) (noted : List Item) (s : State)
         → Reaches values.now order code.now machine.old.home (state_of machine.old) fetched noted s → IsSafe code.now s }
     ensures leaps { Leaps values.now order code.now machine.old.home (state_of machine.old)
-        (source_seen S.Source.left S.Source.ended S.Source.faults source.old source.new) (L.number steps.old) (L.number steps.new)
+        (source_over S.Source.seen source.old source.new) (L.number steps.old) (L.number steps.new)
         (state_of machine.new) result }
     ensures outside { OnOk result (outside machine.new ≡ outside machine.old) }
-    ensures later { S.Source.faults source.old ≤ S.Source.faults source.new }
+    ensures later { (S.Source.seen source.old).faults ≤ (S.Source.seen source.new).faults }
 {
     match instr {
         Instr::Record { members } => leap_record(
@@ -71,10 +71,10 @@ fn leap_one<S: Source, L: Ledger>(
     requires safe { (fetched : List ℕ) (noted : List Item) (s : State)
         → Reaches values.now order code.now machine.old.home (state_of machine.old) fetched noted s → IsSafe code.now s }
     ensures leaps { Leaps values.now order code.now machine.old.home (state_of machine.old)
-        (source_seen S.Source.left S.Source.ended S.Source.faults source.old source.new) (L.number steps.old) (L.number steps.new)
+        (source_over S.Source.seen source.old source.new) (L.number steps.old) (L.number steps.new)
         (state_of machine.new) result }
     ensures outside { OnOk result (outside machine.new ≡ outside machine.old) }
-    ensures later { S.Source.faults source.old ≤ S.Source.faults source.new }
+    ensures later { (S.Source.seen source.old).faults ≤ (S.Source.seen source.new).faults }
 {
     let leapt = leap_alone(machine, order, instr, source, steps)?;
     Ok(leapt)
@@ -97,10 +97,10 @@ fn leap_record<S: Source, L: Ledger>(
     requires safe { (fetched : List ℕ) (noted : List Item) (s : State)
         → Reaches values.now order code.now machine.old.home (state_of machine.old) fetched noted s → IsSafe code.now s }
     ensures leaps { Leaps values.now order code.now machine.old.home (state_of machine.old)
-        (source_seen S.Source.left S.Source.ended S.Source.faults source.old source.new) (L.number steps.old) (L.number steps.new)
+        (source_over S.Source.seen source.old source.new) (L.number steps.old) (L.number steps.new)
         (state_of machine.new) result }
     ensures outside { OnOk result (outside machine.new ≡ outside machine.old) }
-    ensures later { S.Source.faults source.old ≤ S.Source.faults source.new }
+    ensures later { (S.Source.seen source.old).faults ≤ (S.Source.seen source.new).faults }
 {
     if leap_elements(machine, order, code, members, values, intake, source, steps)? {
         return Ok(true);
@@ -125,10 +125,10 @@ fn leap_elements<S: Source, L: Ledger>(
     requires safe { (fetched : List ℕ) (noted : List Item) (s : State)
         → Reaches values.now order code.now machine.old.home (state_of machine.old) fetched noted s → IsSafe code.now s }
     ensures leaps { Leaps values.now order code.now machine.old.home (state_of machine.old)
-        (source_seen S.Source.left S.Source.ended S.Source.faults source.old source.new) (L.number steps.old) (L.number steps.new)
+        (source_over S.Source.seen source.old source.new) (L.number steps.old) (L.number steps.new)
         (state_of machine.new) result }
     ensures outside { OnOk result (outside machine.new ≡ outside machine.old) }
-    ensures later { S.Source.faults source.old ≤ S.Source.faults source.new }
+    ensures later { (S.Source.seen source.old).faults ≤ (S.Source.seen source.new).faults }
 {
     match machine.top {
         Frame::Elements {

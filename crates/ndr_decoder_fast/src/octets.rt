@@ -9,10 +9,10 @@ use nd_base::Source;
 /// Fills a buffer, if the source has so many octets at hand, and says whether it has. Else nothing is taken. Takes no memory.
 #[inline(always)]
 pub fn at_hand<S: Source>(source: &mut S, octets: &mut [u8]) -> bool
-    ensures came { result ≡ true → HasCome (S.Source.left source.old) (S.Source.left source.new) octets.new }
-    ensures nothing { result ≡ false → S.Source.left source.new ≡ S.Source.left source.old }
+    ensures came { result ≡ true → HasCome (S.Source.seen source.old).left (S.Source.seen source.new).left octets.new }
+    ensures nothing { result ≡ false → (S.Source.seen source.new).left ≡ (S.Source.seen source.old).left }
     ensures wide { length octets.new ≡ length octets.old }
-    ensures faults { S.Source.faults source.new ≡ S.Source.faults source.old }
+    ensures faults { (S.Source.seen source.new).faults ≡ (S.Source.seen source.old).faults }
 {
     let came = fill(source, octets);
     are_octets(octets);
@@ -22,10 +22,10 @@ pub fn at_hand<S: Source>(source: &mut S, octets: &mut [u8]) -> bool
 // The same, where the octets may be any numbers. Few octets are copied without a call where their number is written out.
 #[inline(always)]
 fn fill<S: Source>(source: &mut S, octets: &mut [u8]) -> bool
-    ensures came { result ≡ true → Consumes (S.Source.left source.old) (S.Source.left source.new) octets.new }
-    ensures nothing { result ≡ false → S.Source.left source.new ≡ S.Source.left source.old }
+    ensures came { result ≡ true → Consumes (S.Source.seen source.old).left (S.Source.seen source.new).left octets.new }
+    ensures nothing { result ≡ false → (S.Source.seen source.new).left ≡ (S.Source.seen source.old).left }
     ensures wide { length octets.new ≡ length octets.old }
-    ensures faults { S.Source.faults source.new ≡ S.Source.faults source.old }
+    ensures faults { (S.Source.seen source.new).faults ≡ (S.Source.seen source.old).faults }
 {
     match octets.len() {
         4 => source.fill(&mut octets[..4]),

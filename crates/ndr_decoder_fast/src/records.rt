@@ -1,6 +1,6 @@
 // Structs of numbers that are elements of an array.
 ghost use Rattle.std.specs.Prelude.{◌≡◌, ◌<◌, ◌≤◌, ◌+◌, ◌-◌, ◌*◌, ◌^◌, ◌++◌, ℕ, List, Some, length, slice_get, OnOk, OnErr, IfErr};
-ghost use Rattle.nd_base.specs.Over.{source_seen};
+ghost use Rattle.nd_base.specs.Over.{source_over};
 ghost use Rattle.nd_value.specs.declared.item.Item.{Item};
 ghost use Rattle.nd_flat.specs.Building.{with_nodes};
 ghost use Rattle.nd_flat.specs.Records.{IsMembers, IsRecords, all_records, members_of, records_flats, records_len};
@@ -39,10 +39,10 @@ pub fn leap_records<S: Source, L: Ledger>(
     requires safe { (fetched : List ℕ) (noted : List Item) (s : State)
         → Reaches values.now order code.now machine.old.home (state_of machine.old) fetched noted s → IsSafe code.now s }
     ensures leaps { Leaps values.now order code.now machine.old.home (state_of machine.old)
-        (source_seen S.Source.left S.Source.ended S.Source.faults source.old source.new) (L.number steps.old) (L.number steps.new)
+        (source_over S.Source.seen source.old source.new) (L.number steps.old) (L.number steps.new)
         (state_of machine.new) result }
     ensures outside { OnOk result (outside machine.new ≡ outside machine.old) }
-    ensures later { S.Source.faults source.old ≤ S.Source.faults source.new }
+    ensures later { (S.Source.seen source.old).faults ≤ (S.Source.seen source.new).faults }
 {
     let Some(elements) = elements_here(machine, code, members) else {
         return Ok(false);

@@ -1,6 +1,6 @@
 // Strings.
 ghost use Rattle.std.specs.Prelude.{◌≡◌, ◌<◌, ◌≤◌, ◌+◌, ◌-◌, ◌^◌, ℕ, true, false, List, Some, length, slice_get, OnOk, IfSome, IfNone};
-ghost use Rattle.nd_base.specs.Over.{source_seen};
+ghost use Rattle.nd_base.specs.Over.{source_over};
 ghost use Rattle.nd_value.specs.declared.item.Item.{Item};
 ghost use Rattle.ndr_code.specs.declared.instr.Instr.TheVariants as op;
 ghost use Rattle.ndr_decoder_laws.specs.steps.Steps.{State};
@@ -34,10 +34,10 @@ pub fn leap_string<S: Source, L: Ledger>(
     requires safe { (fetched : List ℕ) (noted : List Item) (s : State)
         → Reaches values.now order code.now machine.old.home (state_of machine.old) fetched noted s → IsSafe code.now s }
     ensures leaps { Leaps values.now order code.now machine.old.home (state_of machine.old)
-        (source_seen S.Source.left S.Source.ended S.Source.faults source.old source.new) (L.number steps.old) (L.number steps.new)
+        (source_over S.Source.seen source.old source.new) (L.number steps.old) (L.number steps.new)
         (state_of machine.new) result }
     ensures outside { OnOk result (outside machine.new ≡ outside machine.old) }
-    ensures later { S.Source.faults source.old ≤ S.Source.faults source.new }
+    ensures later { (S.Source.seen source.old).faults ≤ (S.Source.seen source.new).faults }
 {
     let Some(ahead) = string_ahead(machine, code) else {
         return Ok(false);
@@ -117,9 +117,9 @@ fn is_aligned(code: &Code, at: usize) -> bool
 #[inline(always)]
 fn take_maximum<S: Source>(gap: u32, order: Order, source: &mut S) -> Option<u32>
     requires few { gap ≤ 4 }
-    ensures came { IfSome result (MaxCame order (S.Source.left source.old) (S.Source.left source.new) gap) }
-    ensures nothing { IfNone result (S.Source.left source.new ≡ S.Source.left source.old) }
-    ensures faults { S.Source.faults source.new ≡ S.Source.faults source.old }
+    ensures came { IfSome result (MaxCame order (S.Source.seen source.old).left (S.Source.seen source.new).left gap) }
+    ensures nothing { IfNone result ((S.Source.seen source.new).left ≡ (S.Source.seen source.old).left) }
+    ensures faults { (S.Source.seen source.new).faults ≡ (S.Source.seen source.old).faults }
 {
     let mut octets = [0; 8];
     let all = &mut octets[..gap as usize + 4];
@@ -132,9 +132,9 @@ fn take_maximum<S: Source>(gap: u32, order: Order, source: &mut S) -> Option<u32
 // A count of four octets, if they are at hand.
 #[inline(always)]
 fn take_count<S: Source>(order: Order, source: &mut S) -> Option<u32>
-    ensures came { IfSome result (CountCame order (S.Source.left source.old) (S.Source.left source.new)) }
-    ensures nothing { IfNone result (S.Source.left source.new ≡ S.Source.left source.old) }
-    ensures faults { S.Source.faults source.new ≡ S.Source.faults source.old }
+    ensures came { IfSome result (CountCame order (S.Source.seen source.old).left (S.Source.seen source.new).left) }
+    ensures nothing { IfNone result ((S.Source.seen source.new).left ≡ (S.Source.seen source.old).left) }
+    ensures faults { (S.Source.seen source.new).faults ≡ (S.Source.seen source.old).faults }
 {
     let mut octets = [0; 4];
     if !at_hand(source, &mut octets) {
@@ -182,10 +182,10 @@ fn leap_offset<S: Source, L: Ledger>(
     requires code { machine.old.pc < 2 ^ 32 }
     requires within { machine.old.at + 400 ≤ STREAM_LIMIT }
     requires few { machine.old.count + 1 < 2 ^ 32 }
-    ensures reads { ReadsText order bound (state_of machine.old) (source_seen S.Source.left S.Source.ended S.Source.faults source.old source.new)
+    ensures reads { ReadsText order bound (state_of machine.old) (source_over S.Source.seen source.old source.new)
         (L.number steps.old) (L.number steps.new) (state_of machine.new) result }
     ensures outside { OnOk result (outside machine.new ≡ outside machine.old) }
-    ensures faults { S.Source.faults source.new ≡ S.Source.faults source.old }
+    ensures faults { (S.Source.seen source.new).faults ≡ (S.Source.seen source.old).faults }
 {
     let Some(offset) = take_count(order, source) else {
         return Ok(());
@@ -214,10 +214,10 @@ fn leap_actual<S: Source, L: Ledger>(
     requires code { machine.old.pc < 2 ^ 32 }
     requires within { machine.old.at + 300 ≤ STREAM_LIMIT }
     requires few { machine.old.count + 1 < 2 ^ 32 }
-    ensures reads { ReadsText order bound (state_of machine.old) (source_seen S.Source.left S.Source.ended S.Source.faults source.old source.new)
+    ensures reads { ReadsText order bound (state_of machine.old) (source_over S.Source.seen source.old source.new)
         (L.number steps.old) (L.number steps.new) (state_of machine.new) result }
     ensures outside { OnOk result (outside machine.new ≡ outside machine.old) }
-    ensures faults { S.Source.faults source.new ≡ S.Source.faults source.old }
+    ensures faults { (S.Source.seen source.new).faults ≡ (S.Source.seen source.old).faults }
 {
     let Some(count) = take_count(order, source) else {
         return Ok(());
@@ -255,10 +255,10 @@ fn leap_octets<S: Source, L: Ledger>(
     requires code { machine.old.pc < 2 ^ 32 }
     requires within { machine.old.at + 256 ≤ STREAM_LIMIT }
     requires few { machine.old.count + 1 < 2 ^ 32 }
-    ensures reads { ReadsText order bound (state_of machine.old) (source_seen S.Source.left S.Source.ended S.Source.faults source.old source.new)
+    ensures reads { ReadsText order bound (state_of machine.old) (source_over S.Source.seen source.old source.new)
         (L.number steps.old) (L.number steps.new) (state_of machine.new) result }
     ensures outside { OnOk result (outside machine.new ≡ outside machine.old) }
-    ensures faults { S.Source.faults source.new ≡ S.Source.faults source.old }
+    ensures faults { (S.Source.seen source.new).faults ≡ (S.Source.seen source.old).faults }
 {
     if count <= FEW {
         let mut octets = [0; FEW as usize];
@@ -293,10 +293,10 @@ fn leap_short<S: Source, L: Ledger>(
     requires code { machine.old.pc < 2 ^ 32 }
     requires within { machine.old.at + 256 ≤ STREAM_LIMIT }
     requires few { machine.old.count + 1 < 2 ^ 32 }
-    ensures reads { ReadsText order bound (state_of machine.old) (source_seen S.Source.left S.Source.ended S.Source.faults source.old source.new)
+    ensures reads { ReadsText order bound (state_of machine.old) (source_over S.Source.seen source.old source.new)
         (L.number steps.old) (L.number steps.new) (state_of machine.new) result }
     ensures outside { OnOk result (outside machine.new ≡ outside machine.old) }
-    ensures faults { S.Source.faults source.new ≡ S.Source.faults source.old }
+    ensures faults { (S.Source.seen source.new).faults ≡ (S.Source.seen source.old).faults }
 {
     let mut octets = [0; SHORT as usize];
     leap_text(
@@ -324,10 +324,10 @@ fn leap_text<S: Source, L: Ledger>(
     requires code { machine.old.pc < 2 ^ 32 }
     requires within { machine.old.at + length text.old ≤ STREAM_LIMIT }
     requires few { machine.old.count + 1 < 2 ^ 32 }
-    ensures reads { ReadsText order bound (state_of machine.old) (source_seen S.Source.left S.Source.ended S.Source.faults source.old source.new)
+    ensures reads { ReadsText order bound (state_of machine.old) (source_over S.Source.seen source.old source.new)
         (L.number steps.old) (L.number steps.new) (state_of machine.new) result }
     ensures outside { OnOk result (outside machine.new ≡ outside machine.old) }
-    ensures faults { S.Source.faults source.new ≡ S.Source.faults source.old }
+    ensures faults { (S.Source.seen source.new).faults ≡ (S.Source.seen source.old).faults }
 {
     if !at_hand(source, text) {
         return Ok(());

@@ -1,6 +1,6 @@
 // Structs of numbers and pointers.
 ghost use Rattle.std.specs.Prelude.{◌≡◌, ◌<◌, ◌≤◌, ◌^◌, ◌+◌, ℕ, List, Some, length, slice_get, true, OnOk, OnErr, IfSome};
-ghost use Rattle.nd_base.specs.Over.{source_seen};
+ghost use Rattle.nd_base.specs.Over.{source_over};
 ghost use Rattle.nd_base.specs.declared.TheConstants.{STREAM_LIMIT};
 ghost use Rattle.nd_value.specs.declared.item.Item.{Item};
 ghost use Rattle.nd_grammar.specs.Entry.{gap as gap_by};
@@ -40,10 +40,10 @@ pub fn leap_struct<S: Source, L: Ledger>(
     requires safe { (fetched : List ℕ) (noted : List Item) (s : State)
         → Reaches values.now order code.now machine.old.home (state_of machine.old) fetched noted s → IsSafe code.now s }
     ensures leaps { Leaps values.now order code.now machine.old.home (state_of machine.old)
-        (source_seen S.Source.left S.Source.ended S.Source.faults source.old source.new) (L.number steps.old) (L.number steps.new)
+        (source_over S.Source.seen source.old source.new) (L.number steps.old) (L.number steps.new)
         (state_of machine.new) result }
     ensures outside { OnOk result (outside machine.new ≡ outside machine.old) }
-    ensures later { S.Source.faults source.old ≤ S.Source.faults source.new }
+    ensures later { (S.Source.seen source.old).faults ≤ (S.Source.seen source.new).faults }
 {
     let leapt = try_struct(machine, order, code, members, values, source, steps)?;
     Ok(leapt)
@@ -65,10 +65,10 @@ fn try_struct<S: Source, L: Ledger>(
     requires safe { (fetched : List ℕ) (noted : List Item) (s : State)
         → Reaches values.now order code.now machine.old.home (state_of machine.old) fetched noted s → IsSafe code.now s }
     ensures leaps { LeapsOrGivesUp values.now order code.now machine.old.home (state_of machine.old)
-        (source_seen S.Source.left S.Source.ended S.Source.faults source.old source.new) (L.number steps.old) (L.number steps.new)
+        (source_over S.Source.seen source.old source.new) (L.number steps.old) (L.number steps.new)
         (state_of machine.new) result }
     ensures outside { OnOk result (outside machine.new ≡ outside machine.old) }
-    ensures later { S.Source.faults source.old ≤ S.Source.faults source.new }
+    ensures later { (S.Source.seen source.old).faults ≤ (S.Source.seen source.new).faults }
 {
     if !is_level(machine) || STREAM_LIMIT - machine.at < MOST {
         return Ok(false);

@@ -3,7 +3,7 @@
 use Rattle.std.proofs.Common.{◌≡◌, ◌≤◌, ◌<◌, ℕ, ◌+◌, List, [], ◌∷◌, ◌++◌, length, arith, pos, ℤ, Result, Ok, Err, IsErrAnd, ap, sym, ◌∙◌, subst}
 use Rattle.nd_base.specs.declared.octets.Order.{Order}
 use Rattle.nd_base.specs.declared.TheConstants.{STREAM_LIMIT}
-use Rattle.nd_base.specs.Over.{Rose, SourceSeen}
+use Rattle.nd_base.specs.Over.{Rose, SourceOver}
 use Rattle.nd_base.proofs.Rising.{rose_later}
 use Rattle.std.specs.Io.KnownBytes.{Consumes, IsAtEnd}
 use Rattle.nd_types.specs.Number.{AreOctets, unsigned}
@@ -29,7 +29,7 @@ use Rattle.ndr_decoder_stream.specs.Counted.{in_the_gap}
 use Rattle.ndr_decoder_stream.specs.Fetched.{CountBad, CountCame, GapCame}
 use Rattle.ndr_decoder_stream.proofs.Counting.{faulty, gap_counts, gap_noted, none_noted, one_noted}
 
-module _ (m n : Machine) (source : SourceSeen) (t : DecodingSeen) (os : List ℕ) (all : AreOctets os) (left : Consumes source.left source.left_now os) where
+module _ (m n : Machine) (source : SourceOver) (t : DecodingSeen) (os : List ℕ) (all : AreOctets os) (left : Consumes source.left source.left_now os) where
   pub gap_stop : t.log_now ≡ t.log → t.steps_now ≡ t.steps → (e : DecodeFault) → GapCame m.at source os (Err e) → (r : Result (Unit {0}) DecodeFault) → IsErrAnd r (λ y. y ≡ e) → GapTold m n source t r
   gap_stop log steps e x r is =
       let g : GapStopped m source t e = record { octets = os; all = all; left = left; came = x; log = log; steps = steps } in
@@ -68,13 +68,13 @@ module _ (m n : Machine) (source : SourceSeen) (t : DecodingSeen) (os : List ℕ
 
 -- ## One after the other
 
-pub gap_stopped_alone : (order : Order) (c : SourceSeen) (u : DecodingSeen) (m o : Machine) (e : DecodeFault) → GapStopped m c u e → (r : Result ℕ DecodeFault) → IsErrAnd r (λ y. y ≡ e)
+pub gap_stopped_alone : (order : Order) (c : SourceOver) (u : DecodingSeen) (m o : Machine) (e : DecodeFault) → GapStopped m c u e → (r : Result ℕ DecodeFault) → IsErrAnd r (λ y. y ≡ e)
     → ChunkTold order m o c u r
 gap_stopped_alone order c u m o e x r is =
     let g : ChunkStopped m c u e = in_the_gap x in
     subst (λ z. ChunkTold order m o c u z) (faulty r e is) g
 
-module _ (order : Order) (a b c : SourceSeen) (s t u : DecodingSeen) (f : Follows a b c s t u) (m n o : Machine) where
+module _ (order : Order) (a b c : SourceOver) (s t u : DecodingSeen) (f : Follows a b c s t u) (m n o : Machine) where
   module _ (same_faults : c.faults.now ≡ b.faults.now) (low : c.faults.before ≤ b.faults.before) where
     came_later : (at : ℕ) (os : List ℕ) (e : DecodeFault) → CountCame at b os (Err e) → CountCame at c os (Err e)
     came_later at os (fault.Bad place why) x = bad why x

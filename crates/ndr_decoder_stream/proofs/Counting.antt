@@ -7,7 +7,7 @@ use Rattle.std.specs.Io.KnownBytes.{Consumes, IsAtEnd}
 use Rattle.std.proofs.lemmas.List.{append-nil, length-map}
 use Rattle.nd_base.specs.declared.octets.Order.{Order}
 use Rattle.nd_base.specs.declared.TheConstants.{STREAM_LIMIT}
-use Rattle.nd_base.specs.Over.{SourceSeen}
+use Rattle.nd_base.specs.Over.{SourceOver}
 use Rattle.nd_types.specs.declared.types.TypeId.{TypeId}
 use Rattle.nd_types.specs.Number.{AreOctets, unsigned}
 use Rattle.nd_types.specs.Roots.{Root}
@@ -85,7 +85,7 @@ IsNotCut why = Unit {0}
 
 module _ (w : Setting) (order : Order) (fetched : List ℕ) (noted : List Item) (direct : ℕ) (first : Names) (i : ℕ) (rs : List Root) (roots : List Tree) (elem : TypeId) (done : Trees)
     (max_at : Option ℕ) (k : Position)
-    (few : direct ≤ length (direct_roots w)) (m : Machine) (here : IsAt i k m) (source : SourceSeen) (t : DecodingSeen) where
+    (few : direct ≤ length (direct_roots w)) (m : Machine) (here : IsAt i k m) (source : SourceOver) (t : DecodingSeen) where
   abbrev h : Home
   h = home.Root i
 

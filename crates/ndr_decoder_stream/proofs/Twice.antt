@@ -2,7 +2,7 @@
 use Rattle.std.proofs.Common.{◌≡◌, ℕ, ◌+◌, List, ◌++◌, length, Option, Result, Ok, Err, IsErrAnd, ap, sym, ◌∙◌, subst, append_assoc, ◌≤◌}
 use Rattle.nd_base.specs.declared.octets.Order.{Order}
 use Rattle.nd_base.proofs.Rising.{rose_later}
-use Rattle.nd_base.specs.Over.{SourceSeen, Rose}
+use Rattle.nd_base.specs.Over.{SourceOver, Rose}
 use Rattle.nd_types.specs.declared.types.TypeId.{TypeId}
 use Rattle.nd_types.specs.Roots.{Root}
 use Rattle.nd_value.specs.declared.item.Item.{Item}
@@ -26,7 +26,7 @@ cells_stay m n v = n.numbered ∙ ap (λ (b : Building). length b.graph.cells) v
 
 module _ (w : Setting) (order : Order) (fetched : List ℕ) (noted : List Item) (direct : ℕ) (first : Names) (i : ℕ) (rs : List Root) (roots : List Tree) (elem : TypeId) (done : Trees)
     (max_at : Option ℕ)
-    (cells : ℕ) (a b c : SourceSeen) (s t u : DecodingSeen) (f : Follows a b c s t u) (m n : Machine) where
+    (cells : ℕ) (a b c : SourceOver) (s t u : DecodingSeen) (f : Follows a b c s t u) (m n : Machine) where
   after_both : (os ps : List ℕ) (xs ys : List Item) (k : Position) (count : ℕ) → AfterCount w order ((fetched ++ os) ++ ps) ((noted ++ xs) ++ ys) direct first i rs roots elem done max_at k count
       → AfterCount w order (fetched ++ (os ++ ps)) (noted ++ (xs ++ ys)) direct first i rs roots elem done max_at k count
   after_both os ps xs ys k count x =

@@ -6,7 +6,7 @@
 use Rattle.std.specs.Prelude.{◌≡◌, ◌≤◌, ℕ, zero, suc, ◌+◌, List, [], ◌∷◌, ◌++◌, map, Option, Result, Ok, Err}
 use Rattle.nd_base.specs.declared.octets.Order.{Order}
 use Rattle.nd_base.specs.declared.TheConstants.{STREAM_LIMIT}
-use Rattle.nd_base.specs.Over.{SourceSeen, HasRisen}
+use Rattle.nd_base.specs.Over.{SourceOver, HasRisen}
 use Rattle.nd_types.specs.declared.types.TypeId.{TypeId}
 use Rattle.nd_types.specs.Roots.{Root}
 use Rattle.nd_value.specs.declared.item.Home.TheVariants as home
@@ -24,7 +24,7 @@ use Rattle.ndr_decoder_laws.specs.stream.Report.{the_stream}
 use Rattle.ndr_decoder_laws.specs.pipes.Pipes.{InPipe, InPipes, Position, at_count, at_elements}
 
 -- a refusal is that of the stream; where the source failed, the octets are cut short where they end; where memory failed, reading was cut off
-abbrev pub FaultOf : Setting → Order → List ℕ → List Item → ℕ → SourceSeen → DecodingSeen → DecodeFault → Type 0
+abbrev pub FaultOf : Setting → Order → List ℕ → List Item → ℕ → SourceOver → DecodingSeen → DecodeFault → Type 0
 FaultOf w order fetched noted cells source t (fault.Bad place why) = Refused the_stream w order fetched noted cells source t place why
 FaultOf w order fetched noted cells source t fault.ReadFault = Unread the_stream w order fetched noted cells source t × HasRisen source.faults
 FaultOf w order fetched noted cells source t fault.Memory = CutOff the_stream w order fetched noted cells source t
@@ -47,7 +47,7 @@ pub record HasMoved (m n : Machine) : Type 0 where
 
 -- the gap was passed
 pub record GapRead (w : Setting) (order : Order) (fetched : List ℕ) (noted : List Item) (direct : ℕ) (first : Names) (i : ℕ) (rs : List Root)
-    (roots : List Tree) (elem : TypeId) (done : Trees) (max_at : Option ℕ) (cells : ℕ) (source : SourceSeen) (t : DecodingSeen)
+    (roots : List Tree) (elem : TypeId) (done : Trees) (max_at : Option ℕ) (cells : ℕ) (source : SourceOver) (t : DecodingSeen)
     (m : Machine) : Type 0 where
   pub octets : List ℕ
   pub items : List Item
@@ -56,7 +56,7 @@ pub record GapRead (w : Setting) (order : Order) (fetched : List ℕ) (noted : L
   pub is_at : IsAt i k m
   pub took : Took source t cells octets items cells
 
-abbrev pub Gaps : Setting → Order → List ℕ → List Item → ℕ → Names → ℕ → List Root → List Tree → TypeId → Trees → Option ℕ → ℕ → SourceSeen
+abbrev pub Gaps : Setting → Order → List ℕ → List Item → ℕ → Names → ℕ → List Root → List Tree → TypeId → Trees → Option ℕ → ℕ → SourceOver
     → DecodingSeen → Machine → Result (Unit {0}) DecodeFault → Type 0
 Gaps w order fetched noted direct first i rs roots elem kids max_at cells source t m (Ok u) =
     GapRead w order fetched noted direct first i rs roots elem kids max_at cells source t m
@@ -72,7 +72,7 @@ AfterCount w order fetched noted direct first i rs roots elem kids max_at k (suc
 
 -- the count was read
 pub record CountRead (w : Setting) (order : Order) (fetched : List ℕ) (noted : List Item) (direct : ℕ) (first : Names) (i : ℕ) (rs : List Root)
-    (roots : List Tree) (elem : TypeId) (done : Trees) (max_at : Option ℕ) (cells : ℕ) (source : SourceSeen) (t : DecodingSeen) (m : Machine)
+    (roots : List Tree) (elem : TypeId) (done : Trees) (max_at : Option ℕ) (cells : ℕ) (source : SourceOver) (t : DecodingSeen) (m : Machine)
     (count : ℕ) : Type 0 where
   pub octets : List ℕ
   pub items : List Item
@@ -81,7 +81,7 @@ pub record CountRead (w : Setting) (order : Order) (fetched : List ℕ) (noted :
   pub is_at : IsAt i k m
   pub took : Took source t cells octets items cells
 
-abbrev pub Counts : Setting → Order → List ℕ → List Item → ℕ → Names → ℕ → List Root → List Tree → TypeId → Trees → Option ℕ → ℕ → SourceSeen
+abbrev pub Counts : Setting → Order → List ℕ → List Item → ℕ → Names → ℕ → List Root → List Tree → TypeId → Trees → Option ℕ → ℕ → SourceOver
     → DecodingSeen → Machine → Result ℕ DecodeFault → Type 0
 Counts w order fetched noted direct first i rs roots elem kids max_at cells source t m (Ok n) =
     CountRead w order fetched noted direct first i rs roots elem kids max_at cells source t m n

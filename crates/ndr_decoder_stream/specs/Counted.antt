@@ -4,7 +4,7 @@ use Rattle.std.specs.Prelude.{◌≡◌, ◌≤◌, ℕ, ◌+◌, pos, List, [],
 use Rattle.std.specs.Io.KnownBytes.{Consumes}
 use Rattle.nd_base.specs.declared.octets.Order.{Order}
 use Rattle.nd_base.specs.declared.TheConstants.{STREAM_LIMIT}
-use Rattle.nd_base.specs.Over.{SourceSeen}
+use Rattle.nd_base.specs.Over.{SourceOver}
 use Rattle.nd_types.specs.Number.{AreOctets, unsigned}
 use Rattle.nd_value.specs.declared.item.Home.{Home}
 use Rattle.nd_value.specs.declared.item.Item.{Item}
@@ -23,7 +23,7 @@ count_item_at h at count = item_here h at item.Chunk 4 (pos count) 0
 -- ## The gap
 
 -- The gap came. It was noted, and is no step.
-pub record GapPassed (m n : Machine) (s : SourceSeen) (t : DecodingSeen) : Type 0 where
+pub record GapPassed (m n : Machine) (s : SourceOver) (t : DecodingSeen) : Type 0 where
   pub octets : List ℕ
   pub all : AreOctets octets
   pub left : Consumes s.left s.left_now octets
@@ -33,7 +33,7 @@ pub record GapPassed (m n : Machine) (s : SourceSeen) (t : DecodingSeen) : Type 
   pub at : n.at ≡ m.at + length octets
 
 -- The gap did not come, or was not noted.
-pub record GapStopped (m : Machine) (s : SourceSeen) (t : DecodingSeen) (e : DecodeFault) : Type 0 where
+pub record GapStopped (m : Machine) (s : SourceOver) (t : DecodingSeen) (e : DecodeFault) : Type 0 where
   pub octets : List ℕ
   pub all : AreOctets octets
   pub left : Consumes s.left s.left_now octets
@@ -41,14 +41,14 @@ pub record GapStopped (m : Machine) (s : SourceSeen) (t : DecodingSeen) (e : Dec
   pub log : t.log_now ≡ t.log
   pub steps : t.steps_now ≡ t.steps
 
-abbrev pub GapTold : Machine → Machine → SourceSeen → DecodingSeen → Result (Unit {0}) DecodeFault → Type 0
+abbrev pub GapTold : Machine → Machine → SourceOver → DecodingSeen → Result (Unit {0}) DecodeFault → Type 0
 GapTold m n s t (Ok u) = GapPassed m n s t
 GapTold m n s t (Err e) = GapStopped m s t e
 
 -- ## The count
 
 -- The count came. It was noted, and is a step.
-pub record CountPassed (order : Order) (m n : Machine) (s : SourceSeen) (t : DecodingSeen) (count : ℕ) : Type 0 where
+pub record CountPassed (order : Order) (m n : Machine) (s : SourceOver) (t : DecodingSeen) (count : ℕ) : Type 0 where
   pub octets : List ℕ
   pub all : AreOctets octets
   pub left : Consumes s.left s.left_now octets
@@ -60,7 +60,7 @@ pub record CountPassed (order : Order) (m n : Machine) (s : SourceSeen) (t : Dec
   pub at : n.at ≡ m.at + 4
 
 -- The count did not come, or was not noted.
-pub record CountStopped (m : Machine) (s : SourceSeen) (t : DecodingSeen) (e : DecodeFault) : Type 0 where
+pub record CountStopped (m : Machine) (s : SourceOver) (t : DecodingSeen) (e : DecodeFault) : Type 0 where
   pub octets : List ℕ
   pub all : AreOctets octets
   pub left : Consumes s.left s.left_now octets
@@ -68,14 +68,14 @@ pub record CountStopped (m : Machine) (s : SourceSeen) (t : DecodingSeen) (e : D
   pub log : t.log_now ≡ t.log
   pub steps : t.steps_now ≡ t.steps
 
-abbrev pub CountTold : Order → Machine → Machine → SourceSeen → DecodingSeen → Result ℕ DecodeFault → Type 0
+abbrev pub CountTold : Order → Machine → Machine → SourceOver → DecodingSeen → Result ℕ DecodeFault → Type 0
 CountTold order m n s t (Ok count) = CountPassed order m n s t count
 CountTold order m n s t (Err e) = CountStopped m s t e
 
 -- ## Both
 
 -- The gap and the count came, and no other octets. Both were noted, and the count is a step.
-pub record ChunkCounted (order : Order) (m n : Machine) (s : SourceSeen) (t : DecodingSeen) (count : ℕ) : Type 0 where
+pub record ChunkCounted (order : Order) (m n : Machine) (s : SourceOver) (t : DecodingSeen) (count : ℕ) : Type 0 where
   pub gap_octets : List ℕ
   pub count_octets : List ℕ
   pub all : AreOctets (gap_octets ++ count_octets)
@@ -89,7 +89,7 @@ pub record ChunkCounted (order : Order) (m n : Machine) (s : SourceSeen) (t : De
   pub at : n.at ≡ m.at + length gap_octets + 4
 
 -- The gap came and was noted, and then the count did not come, or was not noted.
-pub record UncountedChunk (m : Machine) (s : SourceSeen) (t : DecodingSeen) (e : DecodeFault) : Type 0 where
+pub record UncountedChunk (m : Machine) (s : SourceOver) (t : DecodingSeen) (e : DecodeFault) : Type 0 where
   pub gap_octets : List ℕ
   pub count_octets : List ℕ
   pub all : AreOctets (gap_octets ++ count_octets)
@@ -99,10 +99,10 @@ pub record UncountedChunk (m : Machine) (s : SourceSeen) (t : DecodingSeen) (e :
   pub logged : HasNoted (gap_items m.home m.at gap_octets) t
   pub steps : t.steps_now ≡ t.steps
 
-pub data ChunkStopped (m : Machine) (s : SourceSeen) (t : DecodingSeen) (e : DecodeFault) : Type 0 where
+pub data ChunkStopped (m : Machine) (s : SourceOver) (t : DecodingSeen) (e : DecodeFault) : Type 0 where
   in_the_gap : GapStopped m s t e → ChunkStopped m s t e
   in_the_count : UncountedChunk m s t e → ChunkStopped m s t e
 
-abbrev pub ChunkTold : Order → Machine → Machine → SourceSeen → DecodingSeen → Result ℕ DecodeFault → Type 0
+abbrev pub ChunkTold : Order → Machine → Machine → SourceOver → DecodingSeen → Result ℕ DecodeFault → Type 0
 ChunkTold order m n s t (Ok count) = ChunkCounted order m n s t count
 ChunkTold order m n s t (Err e) = ChunkStopped m s t e

@@ -1,6 +1,6 @@
 // The count of a chunk, after its gap.
 ghost use Rattle.std.specs.Prelude.{◌≤◌, ◌+◌, ℕ, List, Option, length, OnOk};
-ghost use Rattle.nd_base.specs.Over.{source_seen};
+ghost use Rattle.nd_base.specs.Over.{source_over};
 ghost use Rattle.nd_base.specs.declared.TheConstants.{STREAM_LIMIT};
 ghost use Rattle.nd_types.specs.declared.types.TypeId.{TypeId};
 ghost use Rattle.nd_types.specs.Roots.{Root};
@@ -34,12 +34,12 @@ pub fn chunk_count<S: Source, L: Ledger>(
         → direct ≤ length (direct_roots w)
         → InPipe w order fetched noted direct first i rs roots elem done max_at 4 (at_chunk w order i elem done k) k → IsAt i k machine.old
         → Counts w order fetched noted direct first i rs roots elem done max_at machine.old.cells
-        (source_seen S.Source.left S.Source.ended S.Source.faults source.old source.new)
+        (source_over S.Source.seen source.old source.new)
         (decoding_seen items.old items.new (L.number steps.old) (L.number steps.new)) machine.new result }
-    ensures alone { ChunkTold order machine.old machine.new (source_seen S.Source.left S.Source.ended S.Source.faults source.old source.new)
+    ensures alone { ChunkTold order machine.old machine.new (source_over S.Source.seen source.old source.new)
         (decoding_seen items.old items.new (L.number steps.old) (L.number steps.new)) result }
     ensures moved { OnOk result (HasMoved machine.old machine.new) }
-    ensures later { S.Source.faults source.old ≤ S.Source.faults source.new }
+    ensures later { (S.Source.seen source.old).faults ≤ (S.Source.seen source.new).faults }
 {
     pass_gap(order, machine, intake, source, items, steps)?;
     pass_count(order, machine, intake, source, items, steps)
@@ -60,13 +60,13 @@ fn pass_gap<S: Source, L: Ledger>(
         → direct ≤ length (direct_roots w)
         → InPipe w order fetched noted direct first i rs roots elem done max_at 4 (at_chunk w order i elem done k) k → IsAt i k machine.old
         → Gaps w order fetched noted direct first i rs roots elem done max_at machine.old.cells
-        (source_seen S.Source.left S.Source.ended S.Source.faults source.old source.new)
+        (source_over S.Source.seen source.old source.new)
         (decoding_seen items.old items.new (L.number steps.old) (L.number steps.new)) machine.new result }
-    ensures alone { GapTold machine.old machine.new (source_seen S.Source.left S.Source.ended S.Source.faults source.old source.new)
+    ensures alone { GapTold machine.old machine.new (source_over S.Source.seen source.old source.new)
         (decoding_seen items.old items.new (L.number steps.old) (L.number steps.new)) result }
     ensures moved { OnOk result (HasMoved machine.old machine.new) }
     ensures within { OnOk result (machine.new.at ≤ STREAM_LIMIT) }
-    ensures later { S.Source.faults source.old ≤ S.Source.faults source.new }
+    ensures later { (S.Source.seen source.old).faults ≤ (S.Source.seen source.new).faults }
 {
     fetch_gap(machine.at, intake, source)?;
     machine.note_gap(intake.octets(), items, steps)?;
@@ -89,12 +89,12 @@ fn pass_count<S: Source, L: Ledger>(
         → direct ≤ length (direct_roots w)
         → InPipe w order fetched noted direct first i rs roots elem done max_at 4 (at_count w order i elem done k) k → IsAt i k machine.old
         → Counts w order fetched noted direct first i rs roots elem done max_at machine.old.cells
-        (source_seen S.Source.left S.Source.ended S.Source.faults source.old source.new)
+        (source_over S.Source.seen source.old source.new)
         (decoding_seen items.old items.new (L.number steps.old) (L.number steps.new)) machine.new result }
-    ensures alone { CountTold order machine.old machine.new (source_seen S.Source.left S.Source.ended S.Source.faults source.old source.new)
+    ensures alone { CountTold order machine.old machine.new (source_over S.Source.seen source.old source.new)
         (decoding_seen items.old items.new (L.number steps.old) (L.number steps.new)) result }
     ensures moved { OnOk result (HasMoved machine.old machine.new) }
-    ensures later { S.Source.faults source.old ≤ S.Source.faults source.new }
+    ensures later { (S.Source.seen source.old).faults ≤ (S.Source.seen source.new).faults }
 {
     fetch_count(machine.at, intake, source)?;
     let count = read_count(order, intake.octets());

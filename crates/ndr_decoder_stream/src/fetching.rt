@@ -1,7 +1,7 @@
 // The octets of the gap and of the count of a chunk.
 ghost use Rattle.std.specs.Prelude.{◌≡◌, ◌≤◌};
 ghost use Rattle.std.specs.Io.KnownBytes.{Consumes};
-ghost use Rattle.nd_base.specs.Over.{source_seen};
+ghost use Rattle.nd_base.specs.Over.{source_over};
 ghost use Rattle.nd_base.specs.declared.TheConstants.{STREAM_LIMIT};
 ghost use Rattle.nd_types.specs.Number.{AreOctets};
 ghost use Rattle.ndr_decoder_stream.specs.Fetched.{CountCame, GapCame, stream_answer};
@@ -17,10 +17,10 @@ pub(crate) fn fetch_gap<S: Source>(
     source: &mut S,
 ) -> Result<(), DecodeFault>
     requires near { at ≤ STREAM_LIMIT }
-    ensures came { GapCame at (source_seen S.Source.left S.Source.ended S.Source.faults source.old source.new) intake.new result }
+    ensures came { GapCame at (source_over S.Source.seen source.old source.new) intake.new result }
     ensures octets { AreOctets intake.new }
-    ensures left { Consumes (S.Source.left source.old) (S.Source.left source.new) intake.new }
-    ensures later { S.Source.faults source.old ≤ S.Source.faults source.new }
+    ensures left { Consumes (S.Source.seen source.old).left (S.Source.seen source.new).left intake.new }
+    ensures later { (S.Source.seen source.old).faults ≤ (S.Source.seen source.new).faults }
 {
     let came = intake.gap(source, at, gap_before(at, 4));
     are_octets(intake.octets());
@@ -34,10 +34,10 @@ pub(crate) fn fetch_count<S: Source>(
     source: &mut S,
 ) -> Result<(), DecodeFault>
     requires near { at ≤ STREAM_LIMIT }
-    ensures came { CountCame at (source_seen S.Source.left S.Source.ended S.Source.faults source.old source.new) intake.new result }
+    ensures came { CountCame at (source_over S.Source.seen source.old source.new) intake.new result }
     ensures octets { AreOctets intake.new }
-    ensures left { Consumes (S.Source.left source.old) (S.Source.left source.new) intake.new }
-    ensures later { S.Source.faults source.old ≤ S.Source.faults source.new }
+    ensures left { Consumes (S.Source.seen source.old).left (S.Source.seen source.new).left intake.new }
+    ensures later { (S.Source.seen source.old).faults ≤ (S.Source.seen source.new).faults }
 {
     let came = intake.item(source, at, 4);
     are_octets(intake.octets());

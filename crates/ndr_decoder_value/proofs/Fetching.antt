@@ -3,7 +3,7 @@
 use Rattle.std.proofs.Common.{◌≡◌, ◌≤◌, ◌<◌, ℕ, ◌+◌, ◌-◌, ◌^◌, List, length, min, Result, Ok, Err, IfOk, IfErr, IsErrOf, ◌⊎◌, inl, inr, refl, ◌∙◌, subst, arith}
 use Rattle.std.proofs.lemmas.Bool.{cases_lt}
 use Rattle.nd_base.specs.declared.TheConstants.{STREAM_LIMIT}
-use Rattle.nd_base.specs.Over.{SourceSeen}
+use Rattle.nd_base.specs.Over.{SourceOver}
 use Rattle.nd_base.specs.declared.intake.IntakeFault.{IntakeFault}
 use Rattle.nd_base.specs.declared.intake.IntakeFault.TheVariants as intake
 use Rattle.nd_base.specs.Intake.{IsItemFault}
@@ -43,7 +43,7 @@ item_cut (item_of m) n at os e fewer within =
     let same : n ≡ m = omega (arith, z, within, fits) in
     (subst (λ k. length os < k) same fewer, subst (λ k. at + k ≤ STREAM_LIMIT) same within)
 
-item_long : (w : Want) (n at : ℕ) (s : SourceSeen) (os : List ℕ) → Wants w (want.Item n) → IsItemFault s at n os intake.TooLong → Fetches w at s os (stream_answer (Err intake.TooLong))
+item_long : (w : Want) (n at : ℕ) (s : SourceOver) (os : List ℕ) → Wants w (want.Item n) → IsItemFault s at n os intake.TooLong → Fetches w at s os (stream_answer (Err intake.TooLong))
 item_long no_octets n at s os e fault = cc
 item_long (gap_of m) n at s os e fault = cc
 item_long (item_of m) n at s os e fault =
@@ -71,7 +71,7 @@ is_truncated place e = cc
 is_failed : IsErrOf failed intake.TooLong → ⊥
 is_failed e = cc
 
-pub item_fetched : (w : Want) (n at : ℕ) (s : SourceSeen) (os : List ℕ) (r : Result (Unit {0}) IntakeFault) → Wants w (want.Item n) → IfOk r (λ _. length os ≡ n)
+pub item_fetched : (w : Want) (n at : ℕ) (s : SourceOver) (os : List ℕ) (r : Result (Unit {0}) IntakeFault) → Wants w (want.Item n) → IfOk r (λ _. length os ≡ n)
     → IfOk r (λ _. at + n ≤ STREAM_LIMIT) → (STREAM_LIMIT < at + n → IsErrOf r intake.TooLong) → IfErr r (IsItemFault s at n os) → Fetches w at s os (stream_answer r)
 item_fetched w n at s os (Ok u) e all within long fault = item_came w n at os e all within
 item_fetched w n at s os (Err intake.Memory) e all within long fault = tt

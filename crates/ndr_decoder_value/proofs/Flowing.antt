@@ -5,7 +5,7 @@ use Rattle.std.specs.Prelude.{eqb, slice_get}
 use Rattle.std.proofs.lemmas.Bool.{eqb-true}
 use Rattle.std.specs.Io.KnownBytes.{Consumes}
 use Rattle.nd_base.specs.declared.octets.Order.{Order}
-use Rattle.nd_base.specs.Over.{SourceSeen}
+use Rattle.nd_base.specs.Over.{SourceOver}
 use Rattle.nd_value.specs.Logged.{Logged}
 use Rattle.nd_value.specs.declared.item.Home.{Home}
 use Rattle.nd_grammar.specs.Entry.{gap}
@@ -63,7 +63,7 @@ quick_flows op.Ret at e = refl
 quick_flows (op.Align n) at e = e
 quick_flows _ at e = absurd (let no : false ≡ true = e in cc)
 
-module _ (values : List EnumList) (order : Order) (code : List Instr) (h : Home) (m : Machine) (source : SourceSeen) (i : Instr) (there : slice_get code m.pc ≡ Some i)
+module _ (values : List EnumList) (order : Order) (code : List Instr) (h : Home) (m : Machine) (source : SourceOver) (i : Instr) (there : slice_get code m.pc ≡ Some i)
     (left : Consumes source.left source.left_now []) (log : Logged) (steps : ℕ) (m1 : Machine) where
   -- it goes on, or the value is whole
   pub flow_taken : (p : Progress) → flows i m.at ≡ true → AllSafe values order code h (state_of m) → FlowComes i (state_of m) p (state_of m1)

@@ -5,7 +5,7 @@ use Rattle.std.proofs.KnownBytes.{Consumes-nil}
 use Rattle.std.specs.Prelude.{Bool}
 use Rattle.std.specs.Io.KnownBytes.{Consumes}
 use Rattle.nd_base.specs.declared.octets.Order.{Order}
-use Rattle.nd_base.specs.Over.{SourceSeen}
+use Rattle.nd_base.specs.Over.{SourceOver}
 use Rattle.nd_value.specs.Logged.{Logged}
 use Rattle.nd_value.specs.declared.item.Home.{Home}
 use Rattle.nd_grammar.specs.declared.reason.Reason.{Reason}
@@ -28,7 +28,7 @@ use Rattle.ndr_decoder_value.proofs.Moving.{source, moves_on, whole_on, fault_on
 use Rattle.ndr_decoder_value.proofs.Outcomes.{IsOwnRefusal, step_own}
 use Rattle.ndr_decoder_value.proofs.RowItems.{nothing_kept}
 
-module _ (values : List EnumList) (order : Order) (code : List Instr) (h : Home) (s0 : State) (src : SourceSeen) (k k' : ℕ) (g : Logged) (s1 : State) where
+module _ (values : List EnumList) (order : Order) (code : List Instr) (h : Home) (s0 : State) (src : SourceOver) (k k' : ℕ) (g : Logged) (s1 : State) where
   -- ## Steps were taken, or nothing was done
 
   pub leapt_moves : (c c' : ℕ) → g.keeps ≡ false → Leapt values order code h s0 src k k' s1 → Moves values order code h s0 src (notes_seen g g k k' c c') s1

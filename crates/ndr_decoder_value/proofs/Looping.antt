@@ -3,7 +3,7 @@
 use Rattle.std.proofs.Common.{◌≡◌, ◌≤◌, ℕ, List, ◌++◌, Option, Result, Ok, Err, OnOk, ◌∙◌, subst}
 use Rattle.std.specs.Prelude.{Bool}
 use Rattle.nd_base.specs.declared.octets.Order.{Order}
-use Rattle.nd_base.specs.Over.{SourceSeen}
+use Rattle.nd_base.specs.Over.{SourceOver}
 use Rattle.nd_value.specs.Logged.{Logged}
 use Rattle.nd_value.specs.declared.item.Home.{Home}
 use Rattle.nd_value.specs.declared.item.Item.{Item}
@@ -30,7 +30,7 @@ stays_on (Ok t) x y z e f = e ∙ f
 stays_on (Err e) x y z _ _ = tt
 
 -- and from where the turn begins
-pub still_safe : {values : List EnumList} {order : Order} {code : List Instr} {h h1 : Home} {src : SourceSeen} {n : NotesSeen} {s0 s1 : State} → Moves values order code h s0 src n s1 → h1 ≡ h
+pub still_safe : {values : List EnumList} {order : Order} {code : List Instr} {h h1 : Home} {src : SourceOver} {n : NotesSeen} {s0 s1 : State} → Moves values order code h s0 src n s1 → h1 ≡ h
     → AllSafe values order code h s0 → AllSafe values order code h1 s1
 still_safe {values} {order} {code} {h} {h1} {src} {n} {s0} {s1} m same safe fetched noted s r =
     safe (m.fetched ++ fetched) (m.noted ++ noted) s

@@ -7,7 +7,7 @@ use Rattle.std.specs.Prelude.{Bool, ◌-◌}
 use Rattle.std.specs.Io.KnownBytes.{Consumes}
 use Rattle.nd_base.specs.declared.octets.Order.{Order}
 use Rattle.nd_base.proofs.Rising.{rose_later}
-use Rattle.nd_base.specs.Over.{SourceSeen}
+use Rattle.nd_base.specs.Over.{SourceOver}
 use Rattle.nd_value.specs.Logged.{Logged, noted}
 use Rattle.nd_value.specs.declared.item.Home.{Home}
 use Rattle.nd_value.specs.declared.item.Item.{Item}
@@ -32,7 +32,7 @@ all_noted_on [] ys g = refl
 all_noted_on (x ∷ xs) ys g = all_noted_on xs ys (noted x g)
 
 -- a source over a call
-abbrev pub source : Option (List ℕ) → Option (List ℕ) → Bool → ℕ → ℕ → SourceSeen
+abbrev pub source : Option (List ℕ) → Option (List ℕ) → Bool → ℕ → ℕ → SourceOver
 source left left_now ended before now = record { left = left; left_now = left_now; ended = ended; faults = record { before = before; now = now } }
 
 -- ## Turns
@@ -130,7 +130,7 @@ module _ (values : List EnumList) (order : Order) (code : List Instr) (h : Home)
   moves_none none = record { fetched = []; noted = []; reached = begins; left = none; logged = (refl, omega arith) }
 
 -- memory is refused between two turns
-pub given_up : (values : List EnumList) (order : Order) (code : List Instr) (h : Home) (s0 s1 : State) (src : SourceSeen) (n : NotesSeen) → Moves values order code h s0 src n s1
+pub given_up : (values : List EnumList) (order : Order) (code : List Instr) (h : Home) (s0 s1 : State) (src : SourceOver) (n : NotesSeen) → Moves values order code h s0 src n s1
     → ((fetched : List ℕ) (noted : List Item) (s : State) → Reaches values order code h s0 fetched noted s → IsSafe code s) → EndsCutOff values order code h s0 src n s1
 given_up values order code h s0 s1 src n m safe =
     let safe_here : IsSafe code s1 = safe m.fetched m.noted s1 m.reached in (

@@ -4,7 +4,7 @@ use Rattle.std.proofs.Common.{◌≡◌, ℕ, List, Some, Result, Ok, Err, IsErr
 use Rattle.std.specs.Prelude.{slice_get}
 use Rattle.std.specs.Io.KnownBytes.{Consumes}
 use Rattle.nd_base.specs.declared.octets.Order.{Order}
-use Rattle.nd_base.specs.Over.{SourceSeen}
+use Rattle.nd_base.specs.Over.{SourceOver}
 use Rattle.nd_types.specs.Number.{AreOctets}
 use Rattle.nd_value.specs.Logged.{Logged}
 use Rattle.nd_value.specs.declared.item.Home.{Home}
@@ -28,7 +28,7 @@ pub handed_on : {T : Type 0} (r : Result T DecodeFault) (e : DecodeFault) → Is
 handed_on (Ok t) e h = absurd h
 handed_on (Err y) e h = ap Err h
 
-module _ (values : List EnumList) (order : Order) (code : List Instr) (h : Home) (m : Machine) (source : SourceSeen) (i : Instr) (os : List ℕ)
+module _ (values : List EnumList) (order : Order) (code : List Instr) (h : Home) (m : Machine) (source : SourceOver) (i : Instr) (os : List ℕ)
     (there : slice_get code m.pc ≡ Some i) (octets : AreOctets os) (left : Consumes source.left source.left_now os) (log : Logged) (steps : ℕ) where
   pub one_stopped : (m1 : Machine) (e : DecodeFault) (r : Result Progress DecodeFault) → Fetches (wants values i (state_of m)) m.at source os (Err e) → IsErrAnd r (λ y. y ≡ e)
       → Turns values order code h (state_of m) source (notes_seen log log steps steps m.cells m1.cells) (state_of m1) r

@@ -5,7 +5,7 @@ use Rattle.std.specs.Prelude.{slice_get}
 use Rattle.std.specs.Io.KnownBytes.{Consumes}
 use Rattle.nd_base.specs.declared.octets.Order.{Order}
 use Rattle.nd_base.specs.declared.TheConstants.{STREAM_LIMIT, PIECE}
-use Rattle.nd_base.specs.Over.{SourceSeen}
+use Rattle.nd_base.specs.Over.{SourceOver}
 use Rattle.nd_types.specs.declared.types.Primitive.{Primitive}
 use Rattle.nd_types.specs.declared.types.Primitive.TheVariants.{Boolean, Char, Byte, Small, UnsignedSmall, Short, UnsignedShort, Long, UnsignedLong, Hyper, UnsignedHyper}
 use Rattle.nd_types.specs.declared.types.TypeId.{TypeId}
@@ -43,7 +43,7 @@ piece_fits : (n : ℕ) → n ≤ PIECE → n ≡ min n (2 ^ 32 - 1)
 piece_fits n h = omega (arith, h)
 
 -- the octets of a row, in terms of what a step wants
-pub row_came : (of : TypeId) (count at w : ℕ) (q : Primitive) (s : SourceSeen) (os : List ℕ) (r : Result (Unit {0}) IntakeFault) → q ≡ prim_of of.0 → w ≡ width q
+pub row_came : (of : TypeId) (count at w : ℕ) (q : Primitive) (s : SourceOver) (os : List ℕ) (r : Result (Unit {0}) IntakeFault) → q ≡ prim_of of.0 → w ≡ width q
     → count * width (prim_of of.0) ≤ PIECE → IfOk r (λ _. length os ≡ count * w) → IfOk r (λ _. at + count * w ≤ STREAM_LIMIT)
     → (STREAM_LIMIT < at + count * w → IsErrOf r intake.TooLong) → IfErr r (IsItemFault s at (count * w) os)
     → Fetches (item_of (count * width (prim_of of.0))) at s os (stream_answer r)
@@ -54,7 +54,7 @@ row_came of count at w q s os r prim_is wide piece all within long fault =
     (item_fetched (item_of (count * w)) (count * w) at s os r (ap want.Item (piece_fits (count * w) small)) all within long fault)
 
 -- too few of them came
-cut_short : (n at : ℕ) (s : SourceSeen) (os : List ℕ) (r : Result (Unit {0}) IntakeFault) (e : DecodeFault) → stream_answer r ≡ Err e → 0 < n → IfErr r (IsItemFault s at n os)
+cut_short : (n at : ℕ) (s : SourceOver) (os : List ℕ) (r : Result (Unit {0}) IntakeFault) (e : DecodeFault) → stream_answer r ≡ Err e → 0 < n → IfErr r (IsItemFault s at n os)
     → length os < n
 cut_short n at s os (Ok u) e is some fault = absurd (ok_is_no_error is)
   where
@@ -65,7 +65,7 @@ cut_short n at s os (Err intake.ReadFault) e is some fault = fault.fewer
 cut_short n at s os (Err intake.TooLong) e is some fault = subst (λ xs. length xs < n) (sym fault.none) some
 cut_short n at s os (Err (intake.Truncated place)) e is some fault = fault.fewer
 
-pub row_fewer : (of : TypeId) (count at w : ℕ) (q : Primitive) (s : SourceSeen) (os : List ℕ) (r : Result (Unit {0}) IntakeFault) (e : DecodeFault) → q ≡ prim_of of.0 → w ≡ width q
+pub row_fewer : (of : TypeId) (count at w : ℕ) (q : Primitive) (s : SourceOver) (os : List ℕ) (r : Result (Unit {0}) IntakeFault) (e : DecodeFault) → q ≡ prim_of of.0 → w ≡ width q
     → 0 < w → 0 < count → stream_answer r ≡ Err e → IfErr r (IsItemFault s at (count * w) os) → length os < count * width (prim_of of.0)
 row_fewer of count at w q s os r e prim_is wide some many is fault =
     let n : count * w ≡ count * width (prim_of of.0) = ap (λ x. count * x) (wide ∙ ap width prim_is) in
@@ -104,7 +104,7 @@ few_numbers UnsignedHyper count h = omega (arith, h)
 
 module _ (values : List EnumList) (order : Order) (code : List Instr) (h : Home) (m : Machine) (of : TypeId) (count : ℕ) (there : slice_get code m.pc ≡ Some (op.Num of))
     (row : IsInRow code (count - 1) m.pc (prim_of of.0) m.top) (aligned : m.at % width (prim_of of.0) ≡ 0) (within : m.at + count * width (prim_of of.0) ≤ STREAM_LIMIT)
-    (source : SourceSeen) (os : List ℕ) (octets : AreOctets os) (left : Consumes source.left source.left_now os) (n : NotesSeen) (s1 : State) where
+    (source : SourceOver) (os : List ℕ) (octets : AreOctets os) (left : Consumes source.left source.left_now os) (n : NotesSeen) (s1 : State) where
   abbrev p : Primitive
   p = prim_of of.0
 

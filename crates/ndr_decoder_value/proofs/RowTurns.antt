@@ -7,7 +7,7 @@ use Rattle.std.specs.Prelude.{slice_get}
 use Rattle.std.specs.Io.KnownBytes.{Consumes}
 use Rattle.nd_base.specs.declared.octets.Order.{Order}
 use Rattle.nd_base.specs.declared.TheConstants.{STREAM_LIMIT}
-use Rattle.nd_base.specs.Over.{SourceSeen}
+use Rattle.nd_base.specs.Over.{SourceOver}
 use Rattle.nd_types.specs.declared.types.Primitive.{Primitive}
 use Rattle.nd_types.specs.declared.types.Primitive.TheVariants.{Boolean, Char, Byte, Small, UnsignedSmall, Short, UnsignedShort, Long, UnsignedLong, Hyper, UnsignedHyper}
 use Rattle.nd_types.specs.declared.types.TypeId.{TypeId}
@@ -163,7 +163,7 @@ module _ (values : List EnumList) (order : Order) (code : List Instr) (h : Home)
       row_right values order code h s0 p m s0 [] os [] of begins there is (fewer_left code p m (count - 1) s0.pc s0.top (omega (arith, few)) row) octets size aligned
       (short_for (suc m) os few size)
 
-  module _ (source : SourceSeen) (n : NotesSeen) (s1 : State) (os : List ℕ) (octets : AreOctets os) (left : Consumes source.left source.left_now os) where
+  module _ (source : SourceOver) (n : NotesSeen) (s1 : State) (os : List ℕ) (octets : AreOctets os) (left : Consumes source.left source.left_now os) where
     consumed : (k : ℕ) → Consumes source.left source.left_now (take k os ++ drop k os)
     consumed k = subst (Consumes source.left source.left_now) (sym (take-append-drop k os)) left
 

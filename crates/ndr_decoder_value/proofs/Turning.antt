@@ -5,7 +5,7 @@ use Rattle.std.proofs.lemmas.List.{append-nil}
 use Rattle.std.specs.Prelude.{slice_get}
 use Rattle.std.specs.Io.KnownBytes.{Consumes}
 use Rattle.nd_base.specs.declared.octets.Order.{Order}
-use Rattle.nd_base.specs.Over.{SourceSeen}
+use Rattle.nd_base.specs.Over.{SourceOver}
 use Rattle.nd_types.specs.Number.{AreOctets}
 use Rattle.nd_value.specs.declared.item.Home.{Home}
 use Rattle.nd_value.specs.declared.item.Item.{Item}
@@ -26,7 +26,7 @@ use Rattle.ndr_decoder_state.specs.Notes.{NotesSeen, IsNotedPart, nothing_noted,
 use Rattle.ndr_decoder_value.specs.Reaching.{IsLogged, IsLoggedPart, End, EndsBad, EndsCutOff, EndsFault, Turns, Fetches}
 use Rattle.ndr_decoder_value.proofs.Outcomes.{IsOwnRefusal, step_own}
 
-module _ (values : List EnumList) (order : Order) (code : List Instr) (h : Home) (s0 s1 : State) (source : SourceSeen) (n : NotesSeen) (i : Instr) (os : List ℕ) where
+module _ (values : List EnumList) (order : Order) (code : List Instr) (h : Home) (s0 s1 : State) (source : SourceOver) (n : NotesSeen) (i : Instr) (os : List ℕ) where
   -- a run that has come through no step yet
   abbrev here : slice_get code s0.pc ≡ Some i → AreOctets os → Consumes source.left source.left_now os → End values order code h s0 source
   here there octets left = record { fetched = []; noted = []; os = os; s = s0; i = i; reached = begins; there = there; octets = octets; left = left }

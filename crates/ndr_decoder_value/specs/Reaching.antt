@@ -5,7 +5,7 @@ use Rattle.std.specs.Prelude.{◌≡◌, ◌≤◌, ℕ, ◌+◌, true, List, []
 use Rattle.std.specs.Io.KnownBytes.{Consumes, IsAtEnd}
 use Rattle.nd_base.specs.declared.octets.Order.{Order}
 use Rattle.nd_base.specs.declared.TheConstants.{STREAM_LIMIT}
-use Rattle.nd_base.specs.Over.{SourceSeen, HasRisen}
+use Rattle.nd_base.specs.Over.{SourceOver, HasRisen}
 use Rattle.nd_types.specs.Number.{AreOctets}
 use Rattle.nd_value.specs.declared.item.Home.{Home}
 use Rattle.nd_value.specs.declared.item.Item.{Item}
@@ -36,7 +36,7 @@ abbrev pub IsLoggedPart : List Item → State → State → NotesSeen → Type 0
 IsLoggedPart noted s0 s n = (n.log_now ≡ all_noted noted n.log) × (n.steps_now + length s0.cells ≤ n.steps + ticks noted + length s.cells)
 
 -- so many octets were taken from the source by steps, and their items were noted
-pub record Moves (values : List EnumList) (order : Order) (code : List Instr) (h : Home) (s0 : State) (source : SourceSeen) (notes : NotesSeen)
+pub record Moves (values : List EnumList) (order : Order) (code : List Instr) (h : Home) (s0 : State) (source : SourceOver) (notes : NotesSeen)
     (s1 : State) : Type 0 where
   pub fetched : List ℕ
   pub noted : List Item
@@ -45,7 +45,7 @@ pub record Moves (values : List EnumList) (order : Order) (code : List Instr) (h
   pub logged : IsLogged noted s0 s1 notes
 
 -- where a run ends: after so many octets, at this state and this instruction, of which some octets came
-pub record End (values : List EnumList) (order : Order) (code : List Instr) (h : Home) (s0 : State) (source : SourceSeen) : Type 0 where
+pub record End (values : List EnumList) (order : Order) (code : List Instr) (h : Home) (s0 : State) (source : SourceOver) : Type 0 where
   pub fetched : List ℕ
   pub noted : List Item
   pub os : List ℕ
@@ -56,7 +56,7 @@ pub record End (values : List EnumList) (order : Order) (code : List Instr) (h :
   pub octets : AreOctets os
   pub left : Consumes source.left source.left_now (fetched ++ os)
 
-module _ (values : List EnumList) (order : Order) (code : List Instr) (h : Home) (s0 : State) (source : SourceSeen) (notes : NotesSeen)
+module _ (values : List EnumList) (order : Order) (code : List Instr) (h : Home) (s0 : State) (source : SourceOver) (notes : NotesSeen)
     (s1 : State) where
   -- the value is whole: the last step, which is noted too, has come to it
   abbrev pub EndsWhole : Type 0
@@ -114,12 +114,12 @@ stream_answer (Err (intake.Truncated place)) = Err (fault.Bad place reason.Trunc
 
 -- What fetching the octets that a step wants at a place comes to, where `os` are those that came: they would end past the limit of a stream, or the
 -- source has ended, or failed, before the last of them.
-abbrev pub FetchesBad : Want → ℕ → SourceSeen → List ℕ → ℕ → Reason → Type 0
+abbrev pub FetchesBad : Want → ℕ → SourceOver → List ℕ → ℕ → Reason → Type 0
 FetchesBad w at source os place reason.TooLong = IsTooLong w at × ((os ≡ []) × (place ≡ STREAM_LIMIT))
 FetchesBad w at source os place reason.Truncated = IsCut w os at × ((place ≡ at + length os) × ((source.ended ≡ true) × IsAtEnd source.left_now))
 FetchesBad w at source os place why = ⊥
 
-abbrev pub Fetches : Want → ℕ → SourceSeen → List ℕ → Result (Unit {0}) DecodeFault → Type 0
+abbrev pub Fetches : Want → ℕ → SourceOver → List ℕ → Result (Unit {0}) DecodeFault → Type 0
 Fetches w at source os (Ok u) = HasOctets w os at
 Fetches w at source os (Err (fault.Bad place why)) = FetchesBad w at source os place why
 Fetches w at source os (Err fault.ReadFault) = IsCut w os at × HasRisen source.faults

@@ -2,7 +2,7 @@
 ghost use Rattle.std.specs.Prelude.{◌≡◌, ◌<◌, ◌≤◌, ◌^◌, ◌%◌, ◌*◌, ◌/◌, ◌+◌, ◌-◌, ℕ, true, false, List, Some, length, take, slice_get, OnOk, OnErr};
 ghost use Rattle.std.specs.Prelude.{IfOk, IfErr, Ok};
 ghost use Rattle.std.specs.Io.KnownBytes.{Consumes};
-ghost use Rattle.nd_base.specs.Over.{source_seen};
+ghost use Rattle.nd_base.specs.Over.{source_over};
 ghost use Rattle.nd_base.specs.declared.TheConstants.{STREAM_LIMIT, PIECE};
 ghost use Rattle.nd_types.specs.Number.{AreOctets};
 ghost use Rattle.nd_types.specs.Table.{width};
@@ -54,10 +54,10 @@ pub fn run<S: Source, L: Ledger>(
     requires safe { (fetched : List ℕ) (noted : List Item) (s : State)
         → Reaches values.now order code.now machine.old.home (state_of machine.old) fetched noted s → IsSafe code.now s }
     ensures ends { Ends values.now order code.now machine.old.home (state_of machine.old)
-        (source_seen S.Source.left S.Source.ended S.Source.faults source.old source.new)
+        (source_over S.Source.seen source.old source.new)
         (notes_seen items.old items.new (L.number steps.old) (L.number steps.new) machine.old.cells machine.new.cells) (state_of machine.new) result }
     ensures outside { OnOk result (outside machine.new ≡ outside machine.old) }
-    ensures later { S.Source.faults source.old ≤ S.Source.faults source.new }
+    ensures later { (S.Source.seen source.old).faults ≤ (S.Source.seen source.new).faults }
 {
     let instr = code.at(machine.pc);
     match take_lead(
@@ -87,10 +87,10 @@ fn take_lead<S: Source, L: Ledger>(
     requires safe { (fetched : List ℕ) (noted : List Item) (s : State)
         → Reaches values.now order code.now machine.old.home (state_of machine.old) fetched noted s → IsSafe code.now s }
     ensures turns { Turns values.now order code.now machine.old.home (state_of machine.old)
-        (source_seen S.Source.left S.Source.ended S.Source.faults source.old source.new)
+        (source_over S.Source.seen source.old source.new)
         (notes_seen items.old items.new (L.number steps.old) (L.number steps.new) machine.old.cells machine.new.cells) (state_of machine.new) result }
     ensures outside { OnOk result (outside machine.new ≡ outside machine.old) }
-    ensures later { S.Source.faults source.old ≤ S.Source.faults source.new }
+    ensures later { (S.Source.seen source.old).faults ≤ (S.Source.seen source.new).faults }
 {
     if is_empty_gap(machine, instr) {
         let progress = take_quick(
@@ -139,10 +139,10 @@ fn run_first<S: Source, L: Ledger>(
     requires safe { (fetched : List ℕ) (noted : List Item) (s : State)
         → Reaches values.now order code.now machine.old.home (state_of machine.old) fetched noted s → IsSafe code.now s }
     ensures ends { Ends values.now order code.now machine.old.home (state_of machine.old)
-        (source_seen S.Source.left S.Source.ended S.Source.faults source.old source.new)
+        (source_over S.Source.seen source.old source.new)
         (notes_seen items.old items.new (L.number steps.old) (L.number steps.new) machine.old.cells machine.new.cells) (state_of machine.new) result }
     ensures outside { OnOk result (outside machine.new ≡ outside machine.old) }
-    ensures later { S.Source.faults source.old ≤ S.Source.faults source.new }
+    ensures later { (S.Source.seen source.old).faults ≤ (S.Source.seen source.new).faults }
 {
     let instr = code.at(machine.pc);
     match take_first(
@@ -172,10 +172,10 @@ fn take_first<S: Source, L: Ledger>(
     requires safe { (fetched : List ℕ) (noted : List Item) (s : State)
         → Reaches values.now order code.now machine.old.home (state_of machine.old) fetched noted s → IsSafe code.now s }
     ensures turns { Turns values.now order code.now machine.old.home (state_of machine.old)
-        (source_seen S.Source.left S.Source.ended S.Source.faults source.old source.new)
+        (source_over S.Source.seen source.old source.new)
         (notes_seen items.old items.new (L.number steps.old) (L.number steps.new) machine.old.cells machine.new.cells) (state_of machine.new) result }
     ensures outside { OnOk result (outside machine.new ≡ outside machine.old) }
-    ensures later { S.Source.faults source.old ≤ S.Source.faults source.new }
+    ensures later { (S.Source.seen source.old).faults ≤ (S.Source.seen source.new).faults }
 {
     let leapt = try_leap(
         machine, order, code, instr, values, intake, source, items, steps,
@@ -222,10 +222,10 @@ fn run_on<S: Source, L: Ledger>(
     requires safe { (fetched : List ℕ) (noted : List Item) (s : State)
         → Reaches values.now order code.now machine.old.home (state_of machine.old) fetched noted s → IsSafe code.now s }
     ensures ends { Ends values.now order code.now machine.old.home (state_of machine.old)
-        (source_seen S.Source.left S.Source.ended S.Source.faults source.old source.new)
+        (source_over S.Source.seen source.old source.new)
         (notes_seen items.old items.new (L.number steps.old) (L.number steps.new) machine.old.cells machine.new.cells) (state_of machine.new) result }
     ensures outside { OnOk result (outside machine.new ≡ outside machine.old) }
-    ensures later { S.Source.faults source.old ≤ S.Source.faults source.new }
+    ensures later { (S.Source.seen source.old).faults ≤ (S.Source.seen source.new).faults }
 {
     // No stream within the limit has so many turns.
     for _turn in 0..u64::MAX {
@@ -268,11 +268,11 @@ fn take_quick<S: Source, L: Ledger>(
         → Reaches values.now order code.now machine.old.home (state_of machine.old) fetched noted s → IsSafe code.now s }
     requires quick { quick instr machine.old.at ≡ true }
     ensures turns { Turns values.now order code.now machine.old.home (state_of machine.old)
-        (source_seen S.Source.left S.Source.ended S.Source.faults source.old source.new)
+        (source_over S.Source.seen source.old source.new)
         (notes_seen items.old items.new (L.number steps.old) (L.number steps.new) machine.old.cells machine.new.cells) (state_of machine.new)
         (Ok result) }
     ensures outside { outside machine.new ≡ outside machine.old }
-    ensures later { S.Source.faults source.old ≤ S.Source.faults source.new }
+    ensures later { (S.Source.seen source.old).faults ≤ (S.Source.seen source.new).faults }
 {
     pass_quick(machine, instr)
 }
@@ -295,10 +295,10 @@ fn take_some<S: Source, L: Ledger>(
     requires safe { (fetched : List ℕ) (noted : List Item) (s : State)
         → Reaches values.now order code.now machine.old.home (state_of machine.old) fetched noted s → IsSafe code.now s }
     ensures turns { Turns values.now order code.now machine.old.home (state_of machine.old)
-        (source_seen S.Source.left S.Source.ended S.Source.faults source.old source.new)
+        (source_over S.Source.seen source.old source.new)
         (notes_seen items.old items.new (L.number steps.old) (L.number steps.new) machine.old.cells machine.new.cells) (state_of machine.new) result }
     ensures outside { OnOk result (outside machine.new ≡ outside machine.old) }
-    ensures later { S.Source.faults source.old ≤ S.Source.faults source.new }
+    ensures later { (S.Source.seen source.old).faults ≤ (S.Source.seen source.new).faults }
 {
     let leapt = try_leap(
         machine, order, code, instr, values, intake, source, items, steps,
@@ -327,12 +327,12 @@ fn try_leap<S: Source, L: Ledger>(
     requires safe { (fetched : List ℕ) (noted : List Item) (s : State)
         → Reaches values.now order code.now machine.old.home (state_of machine.old) fetched noted s → IsSafe code.now s }
     ensures leaps { Leaps values.now order code.now machine.old.home (state_of machine.old)
-        (source_seen S.Source.left S.Source.ended S.Source.faults source.old source.new) (L.number steps.old) (L.number steps.new)
+        (source_over S.Source.seen source.old source.new) (L.number steps.old) (L.number steps.new)
         (state_of machine.new) result }
     ensures quiet { IfOk result (λ leapt. leapt ≡ true → items.now.keeps ≡ false) }
     ensures fault { OnErr result (items.now.keeps ≡ false) }
     ensures outside { OnOk result (outside machine.new ≡ outside machine.old) }
-    ensures later { S.Source.faults source.old ≤ S.Source.faults source.new }
+    ensures later { (S.Source.seen source.old).faults ≤ (S.Source.seen source.new).faults }
 {
     if items.keeps() {
         return Ok(false);
@@ -356,10 +356,10 @@ fn take_next<S: Source, L: Ledger>(
     requires safe { (fetched : List ℕ) (noted : List Item) (s : State)
         → Reaches values.now order code.now machine.old.home (state_of machine.old) fetched noted s → IsSafe code.now s }
     ensures turns { Turns values.now order code.now machine.old.home (state_of machine.old)
-        (source_seen S.Source.left S.Source.ended S.Source.faults source.old source.new)
+        (source_over S.Source.seen source.old source.new)
         (notes_seen items.old items.new (L.number steps.old) (L.number steps.new) machine.old.cells machine.new.cells) (state_of machine.new) result }
     ensures outside { OnOk result (outside machine.new ≡ outside machine.old) }
-    ensures later { S.Source.faults source.old ≤ S.Source.faults source.new }
+    ensures later { (S.Source.seen source.old).faults ≤ (S.Source.seen source.new).faults }
 {
     let instr = code.at(machine.pc);
     if is_flow(machine, instr) {
@@ -400,10 +400,10 @@ fn take_one<S: Source, L: Ledger>(
     requires safe { (fetched : List ℕ) (noted : List Item) (s : State)
         → Reaches values.now order code.now machine.old.home (state_of machine.old) fetched noted s → IsSafe code.now s }
     ensures turns { Turns values.now order code.now machine.old.home (state_of machine.old)
-        (source_seen S.Source.left S.Source.ended S.Source.faults source.old source.new)
+        (source_over S.Source.seen source.old source.new)
         (notes_seen items.old items.new (L.number steps.old) (L.number steps.new) machine.old.cells machine.new.cells) (state_of machine.new) result }
     ensures outside { OnOk result (outside machine.new ≡ outside machine.old) }
-    ensures later { S.Source.faults source.old ≤ S.Source.faults source.new }
+    ensures later { (S.Source.seen source.old).faults ≤ (S.Source.seen source.new).faults }
 {
     let came = fetch(machine, instr, values, intake, source);
     are_octets(intake.octets());
@@ -423,10 +423,10 @@ fn fetch<S: Source>(
     requires inner { IsInner instr }
     requires within { machine.now.at ≤ STREAM_LIMIT }
     ensures fetched { Fetches (wants values.now instr (state_of machine.now)) machine.now.at
-        (source_seen S.Source.left S.Source.ended S.Source.faults source.old source.new) intake.new result }
+        (source_over S.Source.seen source.old source.new) intake.new result }
     ensures fits { IfOk result (λ _. machine.now.at + length intake.new + 8 < 2 ^ 32) }
-    ensures left { Consumes (S.Source.left source.old) (S.Source.left source.new) intake.new }
-    ensures later { S.Source.faults source.old ≤ S.Source.faults source.new }
+    ensures left { Consumes (S.Source.seen source.old).left (S.Source.seen source.new).left intake.new }
+    ensures later { (S.Source.seen source.old).faults ≤ (S.Source.seen source.new).faults }
 {
     match wanted(machine, instr, values) {
         Want::Gap(count) => fetched(intake.gap(source, machine.at, count)),
@@ -463,10 +463,10 @@ fn take_row<S: Source, L: Ledger>(
     requires safe { (fetched : List ℕ) (noted : List Item) (s : State)
         → Reaches values.now order code.now machine.old.home (state_of machine.old) fetched noted s → IsSafe code.now s }
     ensures turns { Turns values.now order code.now machine.old.home (state_of machine.old)
-        (source_seen S.Source.left S.Source.ended S.Source.faults source.old source.new)
+        (source_over S.Source.seen source.old source.new)
         (notes_seen items.old items.new (L.number steps.old) (L.number steps.new) machine.old.cells machine.new.cells) (state_of machine.new) result }
     ensures outside { OnOk result (outside machine.new ≡ outside machine.old) }
-    ensures later { S.Source.faults source.old ≤ S.Source.faults source.new }
+    ensures later { (S.Source.seen source.old).faults ≤ (S.Source.seen source.new).faults }
 {
     let prim = prim_of(of.0);
     let came = fetched(intake.item(source, machine.at, count * width_of(prim) as u32));

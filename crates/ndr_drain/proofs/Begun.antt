@@ -3,7 +3,7 @@
 use Rattle.std.proofs.Common.{◌≡◌, ◌-◌, ◌∙◌, ap, sym, subst, ℕ, length, Option, Some}
 use Rattle.std.specs.List.{slice_get}
 use Rattle.nd_base.specs.declared.octets.Order.{Order}
-use Rattle.nd_base.specs.Over.{SourceSeen}
+use Rattle.nd_base.specs.Over.{SourceOver}
 use Rattle.nd_types.specs.declared.interface.Interface.{Interface}
 use Rattle.nd_types.specs.declared.types.Operation.{Operation}
 use Rattle.nd_types.specs.declared.types.Side.{Side}
@@ -58,7 +58,7 @@ module _ (i : Interface) (n : ℕ) (side : Side) (q : Option Graph) (now : Intak
 
 -- ## After the head
 
-module _ (i tie : Interface) (n : ℕ) (side : Side) (order : Order) (q : Option Graph) (b first : IntakeSeen) (s : SourceSeen) (t : DecodingSeen) (tied : tie ≡ i)
+module _ (i tie : Interface) (n : ℕ) (side : Side) (order : Order) (q : Option Graph) (b first : IntakeSeen) (s : SourceOver) (t : DecodingSeen) (tied : tie ≡ i)
     (begun : (o : Operation) → slice_get tie.operations n ≡ Some o → HasBegun tie n o side order b)
     (read : (o : Operation) → slice_get b.interface.operations b.op ≡ Some o → HasHead (setting_beside b.interface o b.side q) s t b first) (beside : first.given ≡ q)
     (o : Operation) (there : slice_get i.operations n ≡ Some o) where

@@ -4,7 +4,7 @@ use Rattle.std.proofs.Common.{◌≡◌, ◌<◌, ◌-◌, ◌∙◌, sym, subst
 use Rattle.std.specs.Prelude.{IfOk, IfErr}
 use Rattle.std.specs.List.{slice_get}
 use Rattle.nd_base.specs.declared.octets.Order.{Order}
-use Rattle.nd_base.specs.Over.{SourceSeen}
+use Rattle.nd_base.specs.Over.{SourceOver}
 use Rattle.nd_types.specs.declared.interface.Interface.{Interface}
 use Rattle.nd_types.specs.declared.types.Operation.{Operation}
 use Rattle.nd_types.specs.declared.types.Side.{Side}
@@ -55,7 +55,7 @@ module _ (i tie : Interface) (n : ℕ) (side : Side) (order : Order) (tied : tie
       let S : Side → Type 0 = λ x. IsRequestOf b.interface b.op x f in
       subst S (sym begins.side_is) (subst N (sym begins.op_is) (subst J (sym (begins.interface_is ∙ tied)) r))
 
-  module _ (q : Option Graph) (first : IntakeSeen) (s : SourceSeen) (t : DecodingSeen)
+  module _ (q : Option Graph) (first : IntakeSeen) (s : SourceOver) (t : DecodingSeen)
       (read : (o : Operation) → slice_get b.interface.operations b.op ≡ Some o → HasHead (setting_beside b.interface o b.side q) s t b first) (beside : first.given ≡ q) where
     pub rest_tied : first.interface ≡ i
     rest_tied = first_interface i tie n side order q b first s t tied begun read beside o there

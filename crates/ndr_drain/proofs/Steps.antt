@@ -3,7 +3,7 @@
 use Rattle.std.proofs.Common.{◌≡◌, ◌≤◌, ◌∙◌, ap, sym, subst, ℕ, List, [], ◌∷◌, length, Some, None, arith, inr}
 use Rattle.std.specs.List.{AllByRecursion}
 use Rattle.std.specs.Prelude.{take}
-use Rattle.nd_base.specs.Over.{SourceSeen}
+use Rattle.nd_base.specs.Over.{SourceOver}
 use Rattle.nd_types.specs.Table.{Table}
 use Rattle.nd_value.specs.Nodes.{home_nodes}
 use Rattle.nd_value.specs.Setting.{Setting}
@@ -42,7 +42,7 @@ lines_after : (w : Setting) (i : IntakeSeen) (vs : List Tree) (which : ℕ) (end
 lines_after w i [] which ends ends_now h e g = absurd (none_long h)
 lines_after w i (v ∷ vs) which ends ends_now h e g = g ∙ ap (λ n. change_at n (with_octets (chunk_lines w i.spot (v ∷ vs))) ends) e
 
-pub given : (w : Setting) (types : Table) → w.table ≡ types → (i now : IntakeSeen) (s : SourceSeen) (t : DecodingSeen) (vs : List Tree) (which of : ℕ) (ends ends_now : List EndSeen)
+pub given : (w : Setting) (types : Table) → w.table ≡ types → (i now : IntakeSeen) (s : SourceOver) (t : DecodingSeen) (vs : List Tree) (which of : ℕ) (ends ends_now : List EndSeen)
     → IsAnswered w s t i now (Some vs)
     → which ≡ end_of_root w i.spot.root → of ≡ elem_at w i.spot.root → ends_now ≡ change_at which (with_octets (lines types of vs)) ends
     → HasPassed w i now s (record { before = ends; now = ends_now }) t
@@ -53,11 +53,11 @@ given w types same i now s t vs which of ends ends_now a e f g = record {
       (g ∙ ap (λ (tb : Table). change_at which (with_octets (lines tb of vs)) ends) (sym same) ∙ ap (λ n. change_at which (with_octets (lines w.table n vs)) ends) f);
 }
 
-pub finished : (w : Setting) (i now : IntakeSeen) (s : SourceSeen) (t : DecodingSeen) (which : ℕ) (ends ends_now : List EndSeen) → IsAnswered w s t i now None
+pub finished : (w : Setting) (i now : IntakeSeen) (s : SourceOver) (t : DecodingSeen) (which : ℕ) (ends ends_now : List EndSeen) → IsAnswered w s t i now None
     → which ≡ end_of_root w i.spot.root → ends_now ≡ change_at which ended ends → HasPassed w i now s (record { before = ends; now = ends_now }) t
 finished w i now s t which ends ends_now a e g = record { elements = []; read = a; given = g ∙ ap (λ n. change_at n ended ends) e }
 
-pub cut_lines : (w : Setting) (types : Table) → w.table ≡ types → (i now : IntakeSeen) (s : SourceSeen) (t : DecodingSeen) (vs : List Tree) (which of : ℕ) (ends ends_now : List EndSeen)
+pub cut_lines : (w : Setting) (types : Table) → w.table ≡ types → (i now : IntakeSeen) (s : SourceOver) (t : DecodingSeen) (vs : List Tree) (which of : ℕ) (ends ends_now : List EndSeen)
     → IsAnswered w s t i now (Some vs)
     → which ≡ end_of_root w i.spot.root → of ≡ elem_at w i.spot.root → AreCut ends ends_now which (lines types of vs) give.Memory
     → IsStepCause w i s (record { before = ends; now = ends_now }) t fault.Memory
@@ -70,7 +70,7 @@ cut_lines w types same i now s t vs which of ends ends_now a e f (cut, g) = inr 
       ∙ ap (λ n. change_at n (with_octets (take cut (chunk_lines w i.spot vs))) ends) e;
 })
 
-pub end_failed : (w : Setting) (types : Table) → w.table ≡ types → (i now : IntakeSeen) (s : SourceSeen) (t : DecodingSeen) (vs : List Tree) (which of : ℕ) (ends ends_now : List EndSeen)
+pub end_failed : (w : Setting) (types : Table) → w.table ≡ types → (i now : IntakeSeen) (s : SourceOver) (t : DecodingSeen) (vs : List Tree) (which of : ℕ) (ends ends_now : List EndSeen)
     → IsAnswered w s t i now (Some vs)
     → which ≡ end_of_root w i.spot.root → of ≡ elem_at w i.spot.root → AreCut ends ends_now which (lines types of vs) give.End
     → IsStepCause w i s (record { before = ends; now = ends_now }) t (fault.EndFailed which)
@@ -82,6 +82,6 @@ end_failed w types same i now s t vs which of ends ends_now a e f g = record {
   failed = subst (λ n. FailsAt ends ends_now which (lines w.table n vs)) f (subst (λ (tb : Table). FailsAt ends ends_now which (lines tb of vs)) (sym same) g);
 }
 
-pub finish_failed : (w : Setting) (i now : IntakeSeen) (s : SourceSeen) (t : DecodingSeen) (which : ℕ) (ends ends_now : List EndSeen) → IsAnswered w s t i now None
+pub finish_failed : (w : Setting) (i now : IntakeSeen) (s : SourceOver) (t : DecodingSeen) (which : ℕ) (ends ends_now : List EndSeen) → IsAnswered w s t i now None
     → which ≡ end_of_root w i.spot.root → FailsAt ends ends_now which [] → IsStepCause w i s (record { before = ends; now = ends_now }) t (fault.EndFailed which)
 finish_failed w i now s t which ends ends_now a e g = record { elements = []; now = now; read = a; which_is = e; failed = g }

@@ -7,7 +7,7 @@ use Rattle.std.proofs.lemmas.List.{append-nil}
 use Rattle.std.specs.Io.KnownBytes.{Consumes}
 use Rattle.nd_base.specs.declared.octets.Order.{Order}
 use Rattle.nd_base.specs.declared.TheConstants.{STREAM_LIMIT}
-use Rattle.nd_base.specs.Over.{SourceSeen}
+use Rattle.nd_base.specs.Over.{SourceOver}
 use Rattle.nd_value.specs.declared.item.Home.TheVariants as home
 use Rattle.nd_value.specs.declared.item.Item.{Item}
 use Rattle.nd_value.specs.Logged.{Logged}
@@ -159,7 +159,7 @@ Consumes-trans (Some xs) None new a b h k = absurd h
 Consumes-trans (Some xs) (Some ys) None a b h k = absurd k
 Consumes-trans (Some xs) (Some ys) (Some zs) a b h k = h ∙ ap (λ l. a ++ l) k ∙ sym (append_assoc a b zs)
 
-abbrev pub over : Option (List ℕ) → Option (List ℕ) → Bool → ℕ → ℕ → SourceSeen
+abbrev pub over : Option (List ℕ) → Option (List ℕ) → Bool → ℕ → ℕ → SourceOver
 over left left_now ended before now = record { left = left; left_now = left_now; ended = ended; faults = record { before = before; now = now } }
 
 abbrev pub ends_to : List EndSeen → List EndSeen → EndsSeen
@@ -334,7 +334,7 @@ module _ (w : Setting) (first now : IntakeSeen) (l0 l1 l2 : Option (List ℕ)) (
       let sum : now.spot.root + now.left ≡ length (root_list w) = u.all in
       omega (arith, l, all, low, sum)
 
-pub below_all : (w : Setting) (first now : IntakeSeen) (s : SourceSeen) (e : EndsSeen) (t : DecodingSeen) → IsUnderWay w first now s e t → (n left : ℕ)
+pub below_all : (w : Setting) (first now : IntakeSeen) (s : SourceOver) (e : EndsSeen) (t : DecodingSeen) → IsUnderWay w first now s e t → (n left : ℕ)
     → n ≡ length (root_list w) - before_pipes (root_list w) → left ≡ now.left → 0 < left → n - left < n
 below_all w first now s e t u n left all l some =
     let low : before_pipes (root_list w) ≤ now.spot.root = u.low in

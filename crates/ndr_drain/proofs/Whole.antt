@@ -5,7 +5,7 @@ use Rattle.std.proofs.Common.{◌≡◌, ◌∙◌, ap, sym, refl, subst, ℕ, �
 use Rattle.std.proofs.lemmas.List.{append-nil}
 use Rattle.std.specs.Io.KnownBytes.{Consumes}
 use Rattle.nd_base.specs.declared.octets.Order.{Order}
-use Rattle.nd_base.specs.Over.{SourceSeen}
+use Rattle.nd_base.specs.Over.{SourceOver}
 use Rattle.nd_value.specs.declared.item.Item.{Item}
 use Rattle.nd_value.specs.declared.value.Graph.{Graph}
 use Rattle.nd_value.specs.Logged.{Logged}
@@ -439,7 +439,7 @@ nothing_read w legal order l e f g n = record {
 }
 
 -- where the head was not read, that is the cause
-pub not_begun : (w : Setting) (order : Order) (s : SourceSeen) (t : DecodingSeen) (ends : List EndSeen) (f : DecodeFault) (r : DrainFault) → r ≡ fault_of f → IsHeadCause w order s t f
+pub not_begun : (w : Setting) (order : Order) (s : SourceOver) (t : DecodingSeen) (ends : List EndSeen) (f : DecodeFault) (r : DrainFault) → r ≡ fault_of f → IsHeadCause w order s t f
     → IsDrainCause w order s (ends_to ends ends) t r
 not_begun w order s t ends f r e h = let P : DrainFault → Type 0 = λ x. IsDrainCause w order s (ends_to ends ends) t x in subst P (sym e) (go f h)
   where

@@ -1,7 +1,7 @@
 -- What draining a stream comes to: the graph that is kept, and what the ends got; and where it stops.
 use Rattle.std.specs.Prelude.{◌≡◌, ◌⊎◌, ℕ, ◌+◌, ◌-◌, ◌<◌, true, false, List, [], ◌∷◌, ◌++◌, length, take, drop}
 use Rattle.nd_base.specs.declared.octets.Order.{Order}
-use Rattle.nd_base.specs.Over.{SourceSeen, HasRisen, IsUntouched}
+use Rattle.nd_base.specs.Over.{SourceOver, HasRisen, IsUntouched}
 use Rattle.nd_types.specs.Table.{Table, type_at}
 use Rattle.nd_types.specs.Roots.{NamedRoot}
 use Rattle.nd_value.specs.declared.value.Graph.{Graph}
@@ -84,7 +84,7 @@ ends_after w s (p ∷ ps) ends = ends_after w (after s p) ps (change_at (end_of_
 
 -- The octets were decoded to a graph, as `decode` decodes them: it conforms, is its own canonical form, and is the only one that they represent; its
 -- items and cells were logged and counted. What is kept is that graph with every pipe empty. Each end took the lines of its pipe and is finished.
-pub record IsDrained (w : Setting) (order : Order) (s : SourceSeen) (e : EndsSeen) (t : DecodingSeen) (taken : ℕ) (kept : Graph) : Type 0 where
+pub record IsDrained (w : Setting) (order : Order) (s : SourceOver) (e : EndsSeen) (t : DecodingSeen) (taken : ℕ) (kept : Graph) : Type 0 where
   pub graph : Graph
   pub decoded : IsDecoded w order s taken graph t
   pub kept_is : kept ≡ without_pipes w graph
@@ -105,12 +105,12 @@ pub record IsGivenTo (w : Setting) (order : Order) (octets : List ℕ) (spot : S
 -- ### Octets that are refused
 
 -- In the head, before anything was given.
-pub record IsRefusedInHead (w : Setting) (order : Order) (s : SourceSeen) (e : EndsSeen) (t : DecodingSeen) (place : ℕ) (why : Reason) : Type 0 where
+pub record IsRefusedInHead (w : Setting) (order : Order) (s : SourceOver) (e : EndsSeen) (t : DecodingSeen) (place : ℕ) (why : Reason) : Type 0 where
   pub refused : IsHeadRefused w order s place why t
   pub none_given : AreAsBefore e
 
 -- In a chunk, after exactly the chunks before it were given.
-pub record IsRefusedInChunk (w : Setting) (order : Order) (s : SourceSeen) (e : EndsSeen) (t : DecodingSeen) (place : ℕ) (why : Reason) : Type 0 where
+pub record IsRefusedInChunk (w : Setting) (order : Order) (s : SourceOver) (e : EndsSeen) (t : DecodingSeen) (place : ℕ) (why : Reason) : Type 0 where
   pub refused : IsRefused w order s place why t
   pub whole : List ℕ
   pub spot : Spot
@@ -122,12 +122,12 @@ pub record IsRefusedInChunk (w : Setting) (order : Order) (s : SourceSeen) (e : 
 -- ### Memory ran out, and reading was cut off
 
 -- In the head, before anything was given.
-pub record IsCutInHead (w : Setting) (order : Order) (s : SourceSeen) (e : EndsSeen) (t : DecodingSeen) : Type 0 where
+pub record IsCutInHead (w : Setting) (order : Order) (s : SourceOver) (e : EndsSeen) (t : DecodingSeen) : Type 0 where
   pub cut : IsHeadCut w order s t
   pub none_given : AreAsBefore e
 
 -- In a chunk, after exactly the chunks before it were given.
-pub record IsCutInChunk (w : Setting) (order : Order) (s : SourceSeen) (e : EndsSeen) (t : DecodingSeen) : Type 0 where
+pub record IsCutInChunk (w : Setting) (order : Order) (s : SourceOver) (e : EndsSeen) (t : DecodingSeen) : Type 0 where
   pub cut : IsCutOff w order s t
   pub whole : List ℕ
   pub spot : Spot
@@ -140,12 +140,12 @@ pub record IsCutInChunk (w : Setting) (order : Order) (s : SourceSeen) (e : Ends
 -- ### The source failed
 
 -- In the head, before anything was given: its next entry lacks octets.
-pub record IsUnreadInHead (w : Setting) (order : Order) (s : SourceSeen) (e : EndsSeen) (t : DecodingSeen) : Type 0 where
+pub record IsUnreadInHead (w : Setting) (order : Order) (s : SourceOver) (e : EndsSeen) (t : DecodingSeen) : Type 0 where
   pub unread : IsHeadUnread w order s t
   pub none_given : AreAsBefore e
 
 -- In a chunk, after exactly the chunks before it were given. That chunk is not whole: its next entry lacks octets.
-pub record IsUnreadInChunk (w : Setting) (order : Order) (s : SourceSeen) (e : EndsSeen) (t : DecodingSeen) : Type 0 where
+pub record IsUnreadInChunk (w : Setting) (order : Order) (s : SourceOver) (e : EndsSeen) (t : DecodingSeen) : Type 0 where
   pub unread : IsUnread w order s t
   pub whole : List ℕ
   pub spot : Spot
@@ -157,7 +157,7 @@ pub record IsUnreadInChunk (w : Setting) (order : Order) (s : SourceSeen) (e : E
 -- ### Chunks that were read and not given whole
 
 -- After the chunks before it were given, one more chunk was read, which what was fetched ends with.
-pub record IsChunkRead (w : Setting) (order : Order) (s : SourceSeen) (t : DecodingSeen) (ends ends_now : List EndSeen) : Type 0 where
+pub record IsChunkRead (w : Setting) (order : Order) (s : SourceOver) (t : DecodingSeen) (ends ends_now : List EndSeen) : Type 0 where
   pub cut : IsCutOff w order s t
   pub whole : List ℕ
   pub spot : Spot
@@ -167,7 +167,7 @@ pub record IsChunkRead (w : Setting) (order : Order) (s : SourceSeen) (t : Decod
   pub fetched_are : cut.fetched ≡ whole ++ chunk.octets
 
 -- A prefix of its lines was given to the end of its pipe, which did not fail.
-pub record IsCutInLines (w : Setting) (order : Order) (s : SourceSeen) (e : EndsSeen) (t : DecodingSeen) : Type 0 where
+pub record IsCutInLines (w : Setting) (order : Order) (s : SourceOver) (e : EndsSeen) (t : DecodingSeen) : Type 0 where
   pub ends : List EndSeen
   pub chunk_read : IsChunkRead w order s t e.before ends
   pub cut : ℕ
@@ -175,7 +175,7 @@ pub record IsCutInLines (w : Setting) (order : Order) (s : SourceSeen) (e : Ends
       ≡ change_at (end_of_root w chunk_read.spot.root) (with_octets (take cut (chunk_lines w chunk_read.spot chunk_read.chunk.elements))) ends
 
 -- The end of its pipe failed at its lines, or where it was to be finished, as the chunk was the last. The ends after that are as before.
-pub record HasEndFailed (w : Setting) (order : Order) (s : SourceSeen) (e : EndsSeen) (t : DecodingSeen) (which : ℕ) : Type 0 where
+pub record HasEndFailed (w : Setting) (order : Order) (s : SourceOver) (e : EndsSeen) (t : DecodingSeen) (which : ℕ) : Type 0 where
   pub ends : List EndSeen
   pub chunk_read : IsChunkRead w order s t e.before ends
   pub which_is : which ≡ end_of_root w chunk_read.spot.root
@@ -184,7 +184,7 @@ pub record HasEndFailed (w : Setting) (order : Order) (s : SourceSeen) (e : Ends
 -- ### Too few ends
 
 -- The side has more pipes than there are ends: nothing was fetched, given, logged or counted.
-pub record AreTooFew (w : Setting) (s : SourceSeen) (e : EndsSeen) (t : DecodingSeen) (wanted found : ℕ) : Type 0 where
+pub record AreTooFew (w : Setting) (s : SourceOver) (e : EndsSeen) (t : DecodingSeen) (wanted found : ℕ) : Type 0 where
   pub wanted_is : wanted ≡ pipe_count w
   pub found_is : found ≡ length e.before
   pub too_few : found < wanted
@@ -195,7 +195,7 @@ pub record AreTooFew (w : Setting) (s : SourceSeen) (e : EndsSeen) (t : Decoding
 
 -- ### Why a stream is not drained
 
-abbrev pub IsDrainCause : Setting → Order → SourceSeen → EndsSeen → DecodingSeen → DrainFault → Type 0
+abbrev pub IsDrainCause : Setting → Order → SourceOver → EndsSeen → DecodingSeen → DrainFault → Type 0
 IsDrainCause w order s e t Memory = IsCutInHead w order s e t ⊎ (IsCutInChunk w order s e t ⊎ IsCutInLines w order s e t)
 IsDrainCause w order s e t ReadFault = HasRisen s.faults × (IsUnreadInHead w order s e t ⊎ IsUnreadInChunk w order s e t)
 IsDrainCause w order s e t (Bad place why) = IsRefusedInHead w order s e t place why ⊎ IsRefusedInChunk w order s e t place why

@@ -4,7 +4,7 @@ use Rattle.std.specs.Prelude.{◌≡◌, ◌⊎◌, ◌≤◌, ℕ, ◌+◌, fal
 use Rattle.std.specs.Io.KnownBytes.{Consumes}
 use Rattle.std.specs.List.{slice_get}
 use Rattle.nd_base.specs.declared.octets.Order.{Order}
-use Rattle.nd_base.specs.Over.{SourceSeen, HasRisen}
+use Rattle.nd_base.specs.Over.{SourceOver, HasRisen}
 use Rattle.nd_types.specs.declared.types.Operation.{Operation}
 use Rattle.nd_value.specs.declared.value.Graph.{Graph}
 use Rattle.nd_value.specs.Logged.{Logged}
@@ -55,13 +55,13 @@ AreOpenFrom (suc i) (e ∷ es) = AreOpenFrom i es
 -- ## One chunk
 
 -- One chunk was read and given to the end of its pipe.
-pub record HasPassed (w : Setting) (i now : IntakeSeen) (s : SourceSeen) (e : EndsSeen) (t : DecodingSeen) : Type 0 where
+pub record HasPassed (w : Setting) (i now : IntakeSeen) (s : SourceOver) (e : EndsSeen) (t : DecodingSeen) : Type 0 where
   pub elements : List Tree
   pub read : HasChunk w s t i now elements
   pub given : e.now ≡ change_at (end_of_root w i.spot.root) (end_after w i.spot elements) e.before
 
 -- One chunk was read, and a prefix of its lines was given to the end of its pipe.
-pub record IsCutAtChunk (w : Setting) (i : IntakeSeen) (s : SourceSeen) (e : EndsSeen) (t : DecodingSeen) : Type 0 where
+pub record IsCutAtChunk (w : Setting) (i : IntakeSeen) (s : SourceOver) (e : EndsSeen) (t : DecodingSeen) : Type 0 where
   pub elements : List Tree
   pub now : IntakeSeen
   pub read : HasChunk w s t i now elements
@@ -69,7 +69,7 @@ pub record IsCutAtChunk (w : Setting) (i : IntakeSeen) (s : SourceSeen) (e : End
   pub given : e.now ≡ change_at (end_of_root w i.spot.root) (with_octets (take cut (chunk_lines w i.spot elements))) e.before
 
 -- One chunk was read, and the end of its pipe failed at it.
-pub record FailsAtChunk (w : Setting) (i : IntakeSeen) (s : SourceSeen) (e : EndsSeen) (t : DecodingSeen) (which : ℕ) : Type 0 where
+pub record FailsAtChunk (w : Setting) (i : IntakeSeen) (s : SourceOver) (e : EndsSeen) (t : DecodingSeen) (which : ℕ) : Type 0 where
   pub elements : List Tree
   pub now : IntakeSeen
   pub read : HasChunk w s t i now elements
@@ -77,7 +77,7 @@ pub record FailsAtChunk (w : Setting) (i : IntakeSeen) (s : SourceSeen) (e : End
   pub failed : FailsAt e.before e.now which (chunk_lines w i.spot elements)
 
 -- why a chunk was not read, or not given
-abbrev pub IsStepCause : Setting → IntakeSeen → SourceSeen → EndsSeen → DecodingSeen → DrainFault → Type 0
+abbrev pub IsStepCause : Setting → IntakeSeen → SourceOver → EndsSeen → DecodingSeen → DrainFault → Type 0
 IsStepCause w i s e t Memory = (IsChunkCut w i.order i.spot s t × AreAsBefore e) ⊎ IsCutAtChunk w i s e t
 IsStepCause w i s e t ReadFault = HasRisen s.faults × IsChunkUnread w i.order i.spot s t × AreAsBefore e
 IsStepCause w i s e t (Bad place why) = IsChunkRefused w i.order i.spot s place why t × AreAsBefore e
@@ -103,7 +103,7 @@ pub record AreNoted (w : Setting) (order : Order) (from : Spot) (parts : List Pa
   pub stepped : (before : List ℕ) → length before ≡ from.place → t.steps_now ≡ t.steps + length (but_gaps (parts_items w order before from parts))
 
 -- Whole chunks were read and given since the head.
-pub record IsUnderWay (w : Setting) (first now : IntakeSeen) (s : SourceSeen) (e : EndsSeen) (t : DecodingSeen) : Type 0 where
+pub record IsUnderWay (w : Setting) (first now : IntakeSeen) (s : SourceOver) (e : EndsSeen) (t : DecodingSeen) : Type 0 where
   pub parts : List Part
   pub consumed : Consumes s.left s.left_now (octets_of parts)
   pub passed : HavePassed w first.order first.spot now.spot parts e
@@ -115,7 +115,7 @@ pub record IsUnderWay (w : Setting) (first now : IntakeSeen) (s : SourceSeen) (e
   pub as_many : length e.now ≡ length e.before
 
 -- Whole chunks were read and given since the head, and the next one was not.
-pub record StopsUnderWay (w : Setting) (first : IntakeSeen) (s : SourceSeen) (e : EndsSeen) (t : DecodingSeen) (fault : DrainFault) : Type 0 where
+pub record StopsUnderWay (w : Setting) (first : IntakeSeen) (s : SourceOver) (e : EndsSeen) (t : DecodingSeen) (fault : DrainFault) : Type 0 where
   pub parts : List Part
   pub spot : Spot
   pub count : ℕ
@@ -133,7 +133,7 @@ pub record StopsUnderWay (w : Setting) (first : IntakeSeen) (s : SourceSeen) (e 
       (record { before = ends; now = e.now }) (record { log = log; log_now = t.log_now; steps = steps; steps_now = t.steps_now }) fault
 
 -- All pipes were read and given; this is the graph that is kept, and so many octets were taken.
-pub record IsReadToEnd (w : Setting) (first : IntakeSeen) (s : SourceSeen) (e : EndsSeen) (t : DecodingSeen) (kept : Graph) (taken : ℕ) : Type 0 where
+pub record IsReadToEnd (w : Setting) (first : IntakeSeen) (s : SourceOver) (e : EndsSeen) (t : DecodingSeen) (kept : Graph) (taken : ℕ) : Type 0 where
   pub now : IntakeSeen
   pub way : IsUnderWay w first now s e t
   pub none_left : now.left ≡ 0

@@ -1,6 +1,6 @@
 // The pipes of a stream, read chunk by chunk and given to their ends.
 ghost use Rattle.std.specs.Prelude.{◌≡◌, ◌<◌, ◌≤◌, ◌-◌, ◌^◌, IfOk, IfErr, OnOk, length, map};
-ghost use Rattle.nd_base.specs.Over.{source_seen};
+ghost use Rattle.nd_base.specs.Over.{source_over};
 ghost use Rattle.nd_value.specs.Deferral.{before_pipes};
 ghost use Rattle.nd_value.specs.Setting.{root_list};
 ghost use Rattle.nd_grammar.specs.decoded.Verdict.{decoding_seen};
@@ -42,13 +42,13 @@ fn drain_chunk<S: Source, L: Ledger, E: PipeEnd>(
     requires which { OfSetting (intake_seen intake.old) (λ w. which ≡ end_of_root w (intake_seen intake.old).spot.root) }
     requires open { IsOpenAt (ends_seen E.seen ends.old) which }
     ensures passed { IfOk result (λ _. OfSetting (intake_seen intake.old) (λ w. HasPassed w (intake_seen intake.old) (intake_seen intake.new)
-        (source_seen S.left S.ended S.faults source.old source.new) (ends_over E.seen ends.old ends.new)
+        (source_over S.seen source.old source.new) (ends_over E.seen ends.old ends.new)
         (decoding_seen items.old items.new (L.number steps.old) (L.number steps.new)))) }
     ensures ready { OnOk result (IsReady intake.new) }
     ensures cause { IfErr result (λ f. OfSetting (intake_seen intake.old) (λ w. IsStepCause w (intake_seen intake.old)
-        (source_seen S.left S.ended S.faults source.old source.new) (ends_over E.seen ends.old ends.new)
+        (source_over S.seen source.old source.new) (ends_over E.seen ends.old ends.new)
         (decoding_seen items.old items.new (L.number steps.old) (L.number steps.new)) f)) }
-    ensures later { S.faults source.old ≤ S.faults source.new }
+    ensures later { (S.seen source.old).faults ≤ (S.seen source.new).faults }
 {
     match intake.chunk(source, items, steps) {
         Ok(Some(vals)) => match give_lines(alloc, interface, of, &vals, which as usize, ends) {
@@ -85,15 +85,15 @@ pub(crate) fn drain_pipes<S: Source, L: Ledger, E: PipeEnd>(
     requires enough { length types.now ≤ length (ends_seen E.seen ends.old) }
     requires few { length types.now < 2 ^ 32 }
     ensures passed { IfOk result (λ _. OfSetting (intake_seen intake.old) (λ w. IsUnderWay w (intake_seen intake.old) (intake_seen intake.new)
-        (source_seen S.left S.ended S.faults source.old source.new) (ends_over E.seen ends.old ends.new)
+        (source_over S.seen source.old source.new) (ends_over E.seen ends.old ends.new)
         (decoding_seen items.old items.new (L.number steps.old) (L.number steps.new)))) }
     ensures ready { OnOk result (IsReady intake.new) }
     ensures reading { OnOk result ((intake_seen intake.new).phase ≡ Reading) }
     ensures none_left { OnOk result ((intake_seen intake.new).left ≡ 0) }
     ensures cause { IfErr result (λ f. OfSetting (intake_seen intake.old) (λ w. StopsUnderWay w (intake_seen intake.old)
-        (source_seen S.left S.ended S.faults source.old source.new) (ends_over E.seen ends.old ends.new)
+        (source_over S.seen source.old source.new) (ends_over E.seen ends.old ends.new)
         (decoding_seen items.old items.new (L.number steps.old) (L.number steps.new)) f)) }
-    ensures later { S.faults source.old ≤ S.faults source.new }
+    ensures later { (S.seen source.old).faults ≤ (S.seen source.new).faults }
 {
     'pipes: while intake.pipes_left() > 0 {
         let left = intake.pipes_left() as usize;

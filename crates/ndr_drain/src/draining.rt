@@ -1,7 +1,7 @@
 // Streams are drained: their pipes go to ends.
 ghost use Rattle.std.specs.Prelude.{◌≡◌, ◌<◌, ◌≤◌, ◌-◌, ◌^◌, IfOk, IfErr, MatchResult, Some, length, map, option_map};
 ghost use Rattle.std.specs.List.{slice_get};
-ghost use Rattle.nd_base.specs.Over.{source_seen};
+ghost use Rattle.nd_base.specs.Over.{source_over};
 ghost use Rattle.nd_types.specs.declared.types.Operation.{Operation};
 ghost use Rattle.nd_value.specs.Deferral.{before_pipes};
 ghost use Rattle.nd_value.specs.Fitting.{setting_beside};
@@ -25,7 +25,7 @@ use nd_types::{Interface, Side, TypeId};
 use nd_value::ItemLog;
 use ndr_code::Plan;
 use ndr_drain_reader::Intake;
-use ndr_pipe::{Ends, PipeEnd, PipeEnds};
+use ndr_pipe::{BoxedEnd, Ends, PipeEnd, PipeEnds};
 use std::alloc::Global;
 
 /// What a stream was drained to.
@@ -76,21 +76,24 @@ pub fn drain<S: Source, L: Ledger>(
     requires tied { plan.now.tie ≡ interface.now }
     requires known { op < length interface.now.operations }
     requires request { IsRequestOf interface.now op side (option_map (λ f. f.now) given) }
-    requires open { AreOpen (ends_seen seen ends.old) }
+    requires open { AreOpen (ends_seen ⟦<BoxedEnd as PipeEnd>⟧.seen ends.old) }
     ensures drained { IfOk result (λ d. (o : Operation) → slice_get interface.now.operations op ≡ Some o
         → IsDrained (setting_beside interface.now o side (option_map (λ f. f.now.graph) given.entry)) order
-        (source_seen S.left S.ended S.faults source.old source.new)
-        (ends_over seen ends.old ends.new) (decoding_seen items.old items.new (L.number steps.old) (L.number steps.new)) d.taken d.fit.graph) }
+        (source_over S.seen source.old source.new)
+        (ends_over ⟦<BoxedEnd as PipeEnd>⟧.seen ends.old ends.new)
+        (decoding_seen items.old items.new (L.number steps.old) (L.number steps.new)) d.taken d.fit.graph) }
     ensures of { IfOk result (λ d. (d.fit.op ≡ op) × (d.fit.side ≡ side) × (d.fit.interface ≡ interface.now)) }
     ensures beside { IfOk result (λ d. d.fit.given ≡ option_map (λ f. f.now.graph) given.entry) }
     ensures cause { IfErr result (λ f. (o : Operation) → slice_get interface.now.operations op ≡ Some o
         → IsDrainCause (setting_beside interface.now o side (option_map (λ f. f.now.graph) given.entry)) order
-        (source_seen S.left S.ended S.faults source.old source.new)
-        (ends_over seen ends.old ends.new) (decoding_seen items.old items.new (L.number steps.old) (L.number steps.new)) f) }
+        (source_over S.seen source.old source.new)
+        (ends_over ⟦<BoxedEnd as PipeEnd>⟧.seen ends.old ends.new)
+        (decoding_seen items.old items.new (L.number steps.old) (L.number steps.new)) f) }
     ensures enough { (o : Operation) → slice_get interface.now.operations op ≡ Some o
-        → length (ends_seen seen ends.old) < pipe_count (setting_beside interface.now o side (option_map (λ f. f.now.graph) given.entry))
+        → length (ends_seen ⟦<BoxedEnd as PipeEnd>⟧.seen ends.old)
+        < pipe_count (setting_beside interface.now o side (option_map (λ f. f.now.graph) given.entry))
         → MatchResult result (λ _. ⊥) IsTooFewEnds }
-    ensures later { S.faults source.old ≤ S.faults source.new }
+    ensures later { (S.seen source.old).faults ≤ (S.seen source.new).faults }
 {
     drain_over(
         alloc, interface, plan, op, side, order, given, source, ends, items, steps,
@@ -117,18 +120,18 @@ pub fn drain_over<S: Source, L: Ledger, E: PipeEnd>(
     requires open { AreOpen (ends_seen E.seen ends.old) }
     ensures drained { IfOk result (λ d. (o : Operation) → slice_get interface.now.operations op ≡ Some o
         → IsDrained (setting_beside interface.now o side (option_map (λ f. f.now.graph) given.entry)) order
-        (source_seen S.left S.ended S.faults source.old source.new)
+        (source_over S.seen source.old source.new)
         (ends_over E.seen ends.old ends.new) (decoding_seen items.old items.new (L.number steps.old) (L.number steps.new)) d.taken d.fit.graph) }
     ensures of { IfOk result (λ d. (d.fit.op ≡ op) × (d.fit.side ≡ side) × (d.fit.interface ≡ interface.now)) }
     ensures beside { IfOk result (λ d. d.fit.given ≡ option_map (λ f. f.now.graph) given.entry) }
     ensures cause { IfErr result (λ f. (o : Operation) → slice_get interface.now.operations op ≡ Some o
         → IsDrainCause (setting_beside interface.now o side (option_map (λ f. f.now.graph) given.entry)) order
-        (source_seen S.left S.ended S.faults source.old source.new)
+        (source_over S.seen source.old source.new)
         (ends_over E.seen ends.old ends.new) (decoding_seen items.old items.new (L.number steps.old) (L.number steps.new)) f) }
     ensures enough { (o : Operation) → slice_get interface.now.operations op ≡ Some o
         → length (ends_seen E.seen ends.old) < pipe_count (setting_beside interface.now o side (option_map (λ f. f.now.graph) given.entry))
         → MatchResult result (λ _. ⊥) IsTooFewEnds }
-    ensures later { S.faults source.old ≤ S.faults source.new }
+    ensures later { (S.seen source.old).faults ≤ (S.seen source.new).faults }
 {
     let Ok(mut intake) = Intake::begin(alloc, plan, op, side, order) else {
         return Err(DrainFault::Memory);
@@ -182,7 +185,7 @@ fn drain_rest<S: Source, L: Ledger, E: PipeEnd>(
     requires enough { length types.now ≤ length (ends_seen E.seen ends.old) }
     requires few { length types.now < 2 ^ 32 }
     ensures read { IfOk result (λ d. OfSetting (intake_seen intake.entry) (λ w. IsReadToEnd w (intake_seen intake.entry)
-        (source_seen S.left S.ended S.faults source.old source.new) (ends_over E.seen ends.old ends.new)
+        (source_over S.seen source.old source.new) (ends_over E.seen ends.old ends.new)
         (decoding_seen items.old items.new (L.number steps.old) (L.number steps.new))
         d.fit.graph d.taken)) }
     ensures of { IfOk result
@@ -190,9 +193,9 @@ fn drain_rest<S: Source, L: Ledger, E: PipeEnd>(
         × (d.fit.interface ≡ (intake_seen intake.entry).interface)) }
     ensures beside { IfOk result (λ d. d.fit.given ≡ (intake_seen intake.entry).given) }
     ensures cause { IfErr result (λ f. OfSetting (intake_seen intake.entry) (λ w. StopsUnderWay w (intake_seen intake.entry)
-        (source_seen S.left S.ended S.faults source.old source.new) (ends_over E.seen ends.old ends.new)
+        (source_over S.seen source.old source.new) (ends_over E.seen ends.old ends.new)
         (decoding_seen items.old items.new (L.number steps.old) (L.number steps.new)) f)) }
-    ensures later { S.faults source.old ≤ S.faults source.new }
+    ensures later { (S.seen source.old).faults ≤ (S.seen source.new).faults }
 {
     let mut intake = intake;
     match drain_pipes(

@@ -4,7 +4,7 @@ use Rattle.std.proofs.Common.{◌≡◌, ◌≤◌, ◌<◌, ◌-◌, ◌*◌, �
 use Rattle.std.specs.Io.KnownBytes.{Consumes}
 use Rattle.std.specs.List.{slice_get}
 use Rattle.nd_base.specs.declared.TheConstants.{STREAM_LIMIT}
-use Rattle.nd_base.specs.Over.{Count, SourceSeen}
+use Rattle.nd_base.specs.Over.{Count, SourceOver}
 use Rattle.nd_types.specs.declared.types.Operation.{Operation}
 use Rattle.nd_value.specs.declared.value.Graph.{Graph}
 use Rattle.nd_value.specs.declared.item.Home.{Home}
@@ -105,7 +105,7 @@ module _ (i : Intake) (ready : IsReady i) (some : 0 < i.left) (o : Operation) (t
 
   -- ## After it was read
 
-  module _ (s : SourceSeen) (t : DecodingSeen) (m : Machine) (count : ℕ) (x : TakenWhole its i.order spot s t m count) where
+  module _ (s : SourceOver) (t : DecodingSeen) (m : Machine) (count : ℕ) (x : TakenWhole its i.order spot s t m count) where
     pub within_limit : m.at ≤ STREAM_LIMIT
     within_limit =
         let a : m.at ≡ i.at + length x.octets = x.at in

@@ -6,7 +6,7 @@ use Rattle.std.specs.Prelude.{IsErrAnd}
 use Rattle.std.specs.List.{slice_get}
 use Rattle.std.proofs.lemmas.List.{length-map}
 use Rattle.nd_base.specs.declared.octets.Order.{Order}
-use Rattle.nd_base.specs.Over.{HasRisen, SourceSeen}
+use Rattle.nd_base.specs.Over.{HasRisen, SourceOver}
 use Rattle.nd_types.specs.declared.types.Operation.{Operation}
 use Rattle.nd_types.specs.declared.types.Side.{Side}
 use Rattle.nd_value.specs.declared.value.Graph.{Graph}
@@ -47,7 +47,7 @@ pub no_cells : (x : Stream) → Begins (between_of x) → cells_of x ≡ 0
 no_cells x begins = sym (length-map x.machine.builder.graph.cells (λ c. c.of)) ∙ ap length begins.cells
 
 -- a fault that is handed on
-pub handed : (w : Setting) (legal : IsLegalSide w) (order : Order) (n : ℕ) (a : SourceSeen) (t : DecodingSeen) (y : Stream) (r : Result (Unit {0}) DecodeFault) (e : DecodeFault)
+pub handed : (w : Setting) (legal : IsLegalSide w) (order : Order) (n : ℕ) (a : SourceOver) (t : DecodingSeen) (y : Stream) (r : Result (Unit {0}) DecodeFault) (e : DecodeFault)
     → IsErrAnd r (λ k. k ≡ e) → FaultOf the_head w order [] [] n a t e → HeadReads w legal order n a t y r
 handed w legal order n a t y (Ok u) e is f = absurd is
 handed w legal order n a t y (Err k) e is f = subst (FaultOf the_head w order [] [] n a t) (sym is) f
@@ -61,7 +61,7 @@ HeadFaultsLaw =
     → HeadThrough w order octets earlier)
 
 -- a fault has its cause
-module _ (law : HeadFaultsLaw) (w : Setting) (legal : IsLegalSide w) (order : Order) (a : SourceSeen) (t : DecodingSeen) where
+module _ (law : HeadFaultsLaw) (w : Setting) (legal : IsLegalSide w) (order : Order) (a : SourceOver) (t : DecodingSeen) where
   -- where the head is refused, so is the stream, after the same entries
   abbrev of_stream : (octets : List ℕ) (noted : List Item) (n place : ℕ) (why : Reason) → StreamRefused the_head w order octets noted n place why
       → StreamRefused the_stream w order octets noted n place why
@@ -120,7 +120,7 @@ module _ (law : HeadFaultsLaw) (w : Setting) (legal : IsLegalSide w) (order : Or
       by fault.Memory x = cut_so x
 
 -- memory fails after the head was read
-pub cut_after : (w : Setting) (legal : IsLegalSide w) (order : Order) (n : ℕ) (a : SourceSeen) (t : DecodingSeen) (y : Stream) → ReadTo w legal order n a t y
+pub cut_after : (w : Setting) (legal : IsLegalSide w) (order : Order) (n : ℕ) (a : SourceOver) (t : DecodingSeen) (y : Stream) → ReadTo w legal order n a t y
     → FaultOf the_head w order [] [] n a t fault.Memory
 cut_after w legal order n a t y r =
     let follows : Follows a (idle_source a.left_now a.ended a.faults) a t (idle_log t.log_now t.steps_now) t = record {
@@ -150,5 +150,5 @@ fits_for plan number way q o there b e conforms request =
     subst (λ p. IsFit (fit_for (closed b) p)) (sym e) (record { operation = o; is_there = there; conforms = conforms; request = request })
 
 -- a fault of the source is answered only where its count rose
-pub risen : (w : Setting) (order : Order) (a : SourceSeen) (t : DecodingSeen) (e : DecodeFault) → e ≡ fault.ReadFault → IsHeadCause w order a t e → HasRisen a.faults
+pub risen : (w : Setting) (order : Order) (a : SourceOver) (t : DecodingSeen) (e : DecodeFault) → e ≡ fault.ReadFault → IsHeadCause w order a t e → HasRisen a.faults
 risen w order a t e is x = (subst (IsHeadCause w order a t) is x).0

@@ -4,7 +4,7 @@
 use Rattle.std.proofs.Common.{◌≡◌, ℕ, ◌+◌, List, [], ◌++◌, length, drop, replicate, None, ap, sym, ◌∙◌, subst, arith}
 use Rattle.std.proofs.lemmas.List.{append-nil}
 use Rattle.nd_base.specs.declared.octets.Order.{Order}
-use Rattle.nd_base.specs.Over.{SourceSeen}
+use Rattle.nd_base.specs.Over.{SourceOver}
 use Rattle.nd_types.specs.Number.{AreOctets}
 use Rattle.nd_types.specs.Roots.{Root}
 use Rattle.nd_value.specs.declared.item.Home.TheVariants as home
@@ -58,7 +58,7 @@ tested_after w order octets h = pass_all order octets (parameter_tests w h) h.pr
 abbrev graph_after : Setting → Reading → Graph
 graph_after w h = graph_of (h.roots ++ replicate (length (drop (before_pipes (root_list w)) (root_list w))) empty_pipe) h.names
 
-module _ (w : Setting) (legal : IsLegalSide w) (i : IntakeSeen) (n0 : ℕ) (a : SourceSeen) (t : DecodingSeen) (x : Stream) (r : ReadTo w legal i.order n0 a t x) where
+module _ (w : Setting) (legal : IsLegalSide w) (i : IntakeSeen) (n0 : ℕ) (a : SourceOver) (t : DecodingSeen) (x : Stream) (r : ReadTo w legal i.order n0 a t x) where
   abbrev many : ℕ
   many = length (drop (before_pipes (root_list w)) (root_list w))
 

@@ -5,7 +5,7 @@ use Rattle.std.specs.Io.KnownBytes.{Consumes}
 use Rattle.std.proofs.lemmas.List.{append-nil}
 use Rattle.nd_base.specs.declared.octets.Order.{Order}
 use Rattle.nd_base.specs.declared.TheConstants.{STREAM_LIMIT}
-use Rattle.nd_base.specs.Over.{SourceSeen}
+use Rattle.nd_base.specs.Over.{SourceOver}
 use Rattle.nd_types.specs.Number.{AreOctets}
 use Rattle.nd_value.specs.declared.item.Home.TheVariants as home
 use Rattle.nd_value.specs.Setting.{Setting}
@@ -31,7 +31,7 @@ use Rattle.ndr_drain_laws.proofs.reader.Meeting.{count_cut, count_end, count_lon
 use Rattle.ndr_drain_reader.specs.Chunks.{Fills, FillsNot, FilledBad, FilledPart, FilledWhole, HasElements, IsOpened, TookOctets}
 
 -- what is right of a fault is right of the answer that hands it on
-pub handed_fault : (w : Setting) (order : Order) (spot : Spot) (s : SourceSeen) (t : DecodingSeen) (n : Machine) (r : Result ℕ DecodeFault) (e : DecodeFault) → IsErrAnd r (λ y. y ≡ e)
+pub handed_fault : (w : Setting) (order : Order) (spot : Spot) (s : SourceOver) (t : DecodingSeen) (n : Machine) (r : Result ℕ DecodeFault) (e : DecodeFault) → IsErrAnd r (λ y. y ≡ e)
     → FillsNot w order spot s t e
     → Fills w order spot s t n r
 handed_fault w order spot s t n (Ok count) e is x = absurd is
@@ -48,7 +48,7 @@ header_steps order spot (o ∷ g) os = refl
 pub none_noted : (t : DecodingSeen) → t.log_now ≡ t.log → HasNoted [] t
 none_noted t e = e ∙ noted_as [] t.log
 
-module _ (w : Setting) (legal : IsLegalSide w) (order : Order) (spot : Spot) (pipe : IsAtPipe w spot) (m : Machine) (o : IsOpened spot m) (s : SourceSeen) (t : DecodingSeen) where
+module _ (w : Setting) (legal : IsLegalSide w) (order : Order) (spot : Spot) (pipe : IsAtPipe w spot) (m : Machine) (o : IsOpened spot m) (s : SourceOver) (t : DecodingSeen) where
   abbrev Bad : ℕ → Reason → Type 0
   Bad place why = FilledBad w order spot s t place why
 

@@ -7,7 +7,7 @@ use Rattle.std.proofs.KnownBytes.{Consumes-trans}
 use Rattle.std.proofs.lemmas.List.{append-nil, length-map, length-replicate}
 use Rattle.nd_base.specs.declared.octets.Order.{Order}
 use Rattle.nd_base.specs.declared.TheConstants.{STREAM_LIMIT}
-use Rattle.nd_base.specs.Over.{Rose, SourceSeen}
+use Rattle.nd_base.specs.Over.{Rose, SourceOver}
 use Rattle.nd_base.proofs.Rising.{rose_later}
 use Rattle.nd_types.specs.declared.types.Primitive.TheVariants as prim
 use Rattle.nd_types.specs.Number.{AreOctets}
@@ -70,7 +70,7 @@ some_is n h = omega (arith, h)
 
 -- ## Two calls
 
-module _ (a b s : SourceSeen) (d e t : DecodingSeen) (f : Follows a b s d e t) where
+module _ (a b s : SourceOver) (d e t : DecodingSeen) (f : Follows a b s d e t) where
   taken_twice : (xs ys : List ℕ) → Consumes a.left a.left_now xs → Consumes b.left b.left_now ys → Consumes s.left s.left_now (xs ++ ys)
   taken_twice xs ys x y =
       subst (λ o. Consumes o s.left_now (xs ++ ys)) (sym f.before)
@@ -132,7 +132,7 @@ one_tree v ks e = ap (λ u. flat (more u none)) (e ∙ ap (node tree.Pipe) (sym 
 
 module _ (plan : Plan) (w : Setting) (legal : IsLegalSide w) (order : Order) (spot : Spot) (pipe : IsAtPipe w spot) (elem : TypeId) (run : ℕ)
     (by_plan : IsPipeBy plan w (type_of_root w spot.root) elem run)
-    (m : Machine) (opened : IsOpened spot m) (a : SourceSeen) (d : DecodingSeen) (n : Machine) (count : ℕ) (c : ChunkCounted order m n a d count) (k : ℕ) (some : count ≡ suc k) where
+    (m : Machine) (opened : IsOpened spot m) (a : SourceOver) (d : DecodingSeen) (n : Machine) (count : ℕ) (c : ChunkCounted order m n a d count) (k : ℕ) (some : count ≡ suc k) where
   abbrev g : List ℕ
   g = c.gap_octets
 
@@ -260,7 +260,7 @@ module _ (plan : Plan) (w : Setting) (legal : IsLegalSide w) (order : Order) (sp
     cells0 : length (state_of o).cells ≡ 0
     cells0 = ap length opens.cells
 
-    module _ (b : SourceSeen) (notes : NotesSeen) (s : SourceSeen) (t : DecodingSeen) (f : Follows a b s d (decoding_of notes) t) where
+    module _ (b : SourceOver) (notes : NotesSeen) (s : SourceOver) (t : DecodingSeen) (f : Follows a b s d (decoding_of notes) t) where
       -- ## A fault
 
       abbrev Comes : Type 0

@@ -7,7 +7,7 @@ use Rattle.std.proofs.Math.Nat.{min-eq_left, min-le_left}
 use Rattle.nd_base.specs.declared.octets.Order.{Order}
 use Rattle.nd_base.specs.declared.octets.Memory.{Memory}
 use Rattle.nd_base.specs.declared.TheConstants.{STREAM_LIMIT}
-use Rattle.nd_base.specs.Over.{SourceSeen}
+use Rattle.nd_base.specs.Over.{SourceOver}
 use Rattle.std.specs.Io.KnownBytes.{Consumes}
 use Rattle.nd_value.specs.declared.item.Item.{Item}
 use Rattle.nd_value.specs.Logged.{Logged}
@@ -79,7 +79,7 @@ module _ (n : ℕ) (own kept g h : Logged) (keeps : own.keeps ≡ g.keeps) (empt
 
 -- ## What was taken
 
-module _ (w : Setting) (order : Order) (spot : Spot) (s : SourceSeen) (t : DecodingSeen) where
+module _ (w : Setting) (order : Order) (spot : Spot) (s : SourceOver) (t : DecodingSeen) where
   -- entries that were read, whose items were noted
   counted_of : (octets : List ℕ) (noted : List Item) (earlier : List EntryAt) → ((before : List ℕ) → length before ≡ spot.place → items order (before ++ octets) earlier ≡ moved_items spot noted)
       → length (but_gaps noted) ≤ length octets → HasNoted (moved_items spot noted) t → t.steps_now ≤ t.steps + length (but_gaps noted) → IsChunkCounted order spot.place octets earlier t
@@ -138,7 +138,7 @@ module _ (w : Setting) (order : Order) (spot : Spot) (s : SourceSeen) (t : Decod
   }
 
 -- reading was cut off there too
-part_of : (w : Setting) (order : Order) (spot : Spot) (s : SourceSeen) (d : DecodingSeen) (m : Machine) (r : Result ℕ DecodeFault) → Fills w order spot s d m r → FilledPart w order spot s d
+part_of : (w : Setting) (order : Order) (spot : Spot) (s : SourceOver) (d : DecodingSeen) (m : Machine) (r : Result ℕ DecodeFault) → Fills w order spot s d m r → FilledPart w order spot s d
 part_of w order spot s d m (Ok count) x = record { octets = x.octets; noted = x.noted; cut = x.whole.cut; took = x.took }
 part_of w order spot s d m (Err (fault.Bad place why)) x = record {
   octets = x.octets;
@@ -154,7 +154,7 @@ part_of w order spot s d m (Err fault.ReadFault) (risen, x) = record {
 }
 part_of w order spot s d m (Err fault.Memory) x = x
 
-module _ (w : Setting) (order : Order) (spot : Spot) (s : SourceSeen) (own kept g h : Logged) (from to steps : ℕ) (before : ℕ) (is_before : spot.node - 1 ≡ before) (keeps : own.keeps ≡ g.keeps)
+module _ (w : Setting) (order : Order) (spot : Spot) (s : SourceOver) (own kept g h : Logged) (from to steps : ℕ) (before : ℕ) (is_before : spot.node - 1 ≡ before) (keeps : own.keeps ≡ g.keeps)
     (empty : own.items ≡ [])
     (none : from ≡ 0) (m : Machine) (r : Result ℕ DecodeFault) (fills : Fills w order spot s (decoding_seen own kept from to) m r) where
   -- the items could not all be noted, and no step was counted
@@ -193,7 +193,7 @@ module _ (w : Setting) (order : Order) (spot : Spot) (s : SourceSeen) (own kept 
             cut_counted w order spot s (decoding_seen g h steps after) x.octets x.noted x.cut x.took.left (log_of_all x.noted x.took.logged) (few_steps x.noted x.took.steps)
 
 -- out of memory, where reading was cut off
-pub taken_memory : (w : Setting) (order : Order) (spot : Spot) (s : SourceSeen) (t : DecodingSeen) (m : Machine) (r : Result ℕ DecodeFault) → IsErrAnd r (λ y. y ≡ fault.Memory)
+pub taken_memory : (w : Setting) (order : Order) (spot : Spot) (s : SourceOver) (t : DecodingSeen) (m : Machine) (r : Result ℕ DecodeFault) → IsErrAnd r (λ y. y ≡ fault.Memory)
     → IsChunkCut w order spot s t → Takes w order spot s t m r
 taken_memory w order spot s t m (Ok count) is x = absurd is
 taken_memory w order spot s t m (Err e) is x = subst (IsChunkFault w order spot s t) (sym is) x

@@ -5,7 +5,7 @@
 use Rattle.std.specs.Prelude.{◌≡◌, ◌≤◌, ℕ, ◌+◌, ◌-◌, true, List, [], ◌∷◌, ◌++◌, length, Option, Some, None}
 use Rattle.std.specs.Io.KnownBytes.{Consumes, IsAtEnd}
 use Rattle.nd_base.specs.declared.octets.Order.{Order}
-use Rattle.nd_base.specs.Over.{SourceSeen, HasRisen}
+use Rattle.nd_base.specs.Over.{SourceOver, HasRisen}
 use Rattle.nd_types.specs.declared.interface.Interface.{Interface}
 use Rattle.nd_types.specs.declared.types.Operation.{Operation}
 use Rattle.nd_types.specs.declared.types.Side.{Side}
@@ -41,7 +41,7 @@ pub record HasBegun (interface : Interface) (op : ℕ) (o : Operation) (side : S
 
 -- The head was read: the octets fetched are the head of a stream of the graph that is kept, which conforms, has empty pipes and is its own canonical
 -- form. The items of the head were logged; each of them but the gaps is a step, and so is each cell.
-pub record HasHead (w : Setting) (s : SourceSeen) (t : DecodingSeen) (i now : IntakeSeen) : Type 0 where
+pub record HasHead (w : Setting) (s : SourceOver) (t : DecodingSeen) (i now : IntakeSeen) : Type 0 where
   pub octets : List ℕ
   pub left : Consumes s.left s.left_now octets
   pub read : AreReadTo w i.order octets now.graph []
@@ -61,7 +61,7 @@ pub record HasHead (w : Setting) (s : SourceSeen) (t : DecodingSeen) (i now : In
 
 -- The octets are refused, as `decode` refuses them, whatever follows them. They are refused in the head: the refused entry comes before the pipes,
 -- and so do all that were read.
-pub record IsHeadRefused (w : Setting) (order : Order) (s : SourceSeen) (place : ℕ) (why : Reason) (t : DecodingSeen) : Type 0 where
+pub record IsHeadRefused (w : Setting) (order : Order) (s : SourceOver) (place : ℕ) (why : Reason) (t : DecodingSeen) : Type 0 where
   pub refused : IsRefused w order s place why t
   pub in_head : BadHead w order refused.fetched place why
   -- after the same entries
@@ -69,19 +69,19 @@ pub record IsHeadRefused (w : Setting) (order : Order) (s : SourceSeen) (place :
 
 -- The source failed, and the octets that were fetched are cut short where they end, in the head: the entry that lacks octets comes before the pipes,
 -- and so do all that were read.
-pub record IsHeadUnread (w : Setting) (order : Order) (s : SourceSeen) (t : DecodingSeen) : Type 0 where
+pub record IsHeadUnread (w : Setting) (order : Order) (s : SourceOver) (t : DecodingSeen) : Type 0 where
   pub unread : IsUnread w order s t
   pub in_head : BadHead w order unread.cut.fetched (length unread.cut.fetched) reason.Truncated
   -- after the same entries
   pub as_far : in_head.bad.earlier ≡ unread.cut.earlier
 
 -- Reading was cut off: the octets that were fetched were read through some entries, which were logged and counted. All of them come before the pipes.
-pub record IsHeadCut (w : Setting) (order : Order) (s : SourceSeen) (t : DecodingSeen) : Type 0 where
+pub record IsHeadCut (w : Setting) (order : Order) (s : SourceOver) (t : DecodingSeen) : Type 0 where
   pub cut : IsCutOff w order s t
   pub in_head : length cut.earlier ≤ length (head_entries w cut.read.partial cut.read.stream.steps)
 
 -- why the head was not read
-abbrev pub IsHeadCause : Setting → Order → SourceSeen → DecodingSeen → DecodeFault → Type 0
+abbrev pub IsHeadCause : Setting → Order → SourceOver → DecodingSeen → DecodeFault → Type 0
 IsHeadCause w order s t (fault.Bad place why) = IsHeadRefused w order s place why t
 IsHeadCause w order s t fault.ReadFault = HasRisen s.faults × IsHeadUnread w order s t
 IsHeadCause w order s t fault.Memory = IsHeadCut w order s t
@@ -95,7 +95,7 @@ left_after n (v ∷ vs) = n
 
 -- A chunk was read at the spot: the octets fetched are its count and these elements, which conform. Its items were logged, and each of them but the
 -- gap is a step: so no more than the octets fetched.
-pub record HasChunk (w : Setting) (s : SourceSeen) (t : DecodingSeen) (i now : IntakeSeen) (elements : List Tree) : Type 0 where
+pub record HasChunk (w : Setting) (s : SourceOver) (t : DecodingSeen) (i now : IntakeSeen) (elements : List Tree) : Type 0 where
   pub octets : List ℕ
   pub left : Consumes s.left s.left_now octets
   pub read : IsPart w i.order i.spot (record { octets = octets; elements = elements })
@@ -106,7 +106,7 @@ pub record HasChunk (w : Setting) (s : SourceSeen) (t : DecodingSeen) (i now : I
   pub by_octets : t.steps_now ≤ t.steps + length octets
 
 -- Elements are answered, and none where the pipe has ended.
-abbrev pub IsAnswered : Setting → SourceSeen → DecodingSeen → IntakeSeen → IntakeSeen → Option (List Tree) → Type 0
+abbrev pub IsAnswered : Setting → SourceOver → DecodingSeen → IntakeSeen → IntakeSeen → Option (List Tree) → Type 0
 IsAnswered w s t i now None = HasChunk w s t i now []
 IsAnswered w s t i now (Some vs) = HasChunk w s t i now vs × (1 ≤ length vs)
 
@@ -118,7 +118,7 @@ pub record IsChunkCounted (order : Order) (place : ℕ) (fetched : List ℕ) (ea
 
 -- The octets fetched are refused in the chunk, and those that begin with them, at the same place and for the same reason, whatever follows. They end
 -- with the refused entry. Everything before it was read, was logged and is counted.
-pub record IsChunkRefused (w : Setting) (order : Order) (spot : Spot) (s : SourceSeen) (place : ℕ) (why : Reason) (t : DecodingSeen) : Type 0 where
+pub record IsChunkRefused (w : Setting) (order : Order) (spot : Spot) (s : SourceOver) (place : ℕ) (why : Reason) (t : DecodingSeen) : Type 0 where
   pub fetched : List ℕ
   pub left : Consumes s.left s.left_now fetched
   pub ended : why ≡ reason.Truncated → s.ended ≡ true
@@ -130,14 +130,14 @@ pub record IsChunkRefused (w : Setting) (order : Order) (spot : Spot) (s : Sourc
 
 -- The source failed, and the octets that were fetched are cut short where they end: the next entry of the chunk lacks some of its own, so the chunk
 -- is not whole. The entries before it were read, were logged and are counted.
-pub record IsChunkUnread (w : Setting) (order : Order) (spot : Spot) (s : SourceSeen) (t : DecodingSeen) : Type 0 where
+pub record IsChunkUnread (w : Setting) (order : Order) (spot : Spot) (s : SourceOver) (t : DecodingSeen) : Type 0 where
   pub fetched : List ℕ
   pub left : Consumes s.left s.left_now fetched
   pub short : BadPart w order spot fetched (spot.place + length fetched) reason.Truncated
   pub counted : IsChunkCounted order spot.place fetched short.earlier t
 
 -- Reading was cut off: the octets that were fetched were read through some entries of the chunk, which were logged and counted.
-pub record IsChunkCut (w : Setting) (order : Order) (spot : Spot) (s : SourceSeen) (t : DecodingSeen) : Type 0 where
+pub record IsChunkCut (w : Setting) (order : Order) (spot : Spot) (s : SourceOver) (t : DecodingSeen) : Type 0 where
   pub fetched : List ℕ
   pub left : Consumes s.left s.left_now fetched
   pub earlier : List EntryAt
@@ -145,11 +145,11 @@ pub record IsChunkCut (w : Setting) (order : Order) (spot : Spot) (s : SourceSee
   pub counted : IsChunkCounted order spot.place fetched earlier t
 
 -- why a chunk was not read
-abbrev pub IsChunkFault : Setting → Order → Spot → SourceSeen → DecodingSeen → DecodeFault → Type 0
+abbrev pub IsChunkFault : Setting → Order → Spot → SourceOver → DecodingSeen → DecodeFault → Type 0
 IsChunkFault w order spot s t (fault.Bad place why) = IsChunkRefused w order spot s place why t
 IsChunkFault w order spot s t fault.ReadFault = HasRisen s.faults × IsChunkUnread w order spot s t
 IsChunkFault w order spot s t fault.Memory = IsChunkCut w order spot s t
 
 -- the same at the intake's spot
-abbrev pub IsChunkCause : Setting → IntakeSeen → SourceSeen → DecodingSeen → DecodeFault → Type 0
+abbrev pub IsChunkCause : Setting → IntakeSeen → SourceOver → DecodingSeen → DecodeFault → Type 0
 IsChunkCause w i s t e = IsChunkFault w i.order i.spot s t e

@@ -4,7 +4,7 @@
 use Rattle.std.specs.Prelude.{◌≡◌, ◌≤◌, ℕ, ◌+◌, ◌*◌, List, [], ◌∷◌, ◌++◌, length, Some, None, true, Result, Ok, Err}
 use Rattle.std.specs.Io.KnownBytes.{Consumes, IsAtEnd}
 use Rattle.nd_base.specs.declared.octets.Order.{Order}
-use Rattle.nd_base.specs.Over.{SourceSeen, HasRisen}
+use Rattle.nd_base.specs.Over.{SourceOver, HasRisen}
 use Rattle.nd_types.specs.declared.types.TypeId.{TypeId}
 use Rattle.nd_value.specs.declared.item.Home.TheVariants as home
 use Rattle.nd_value.specs.declared.item.Item.{Item}
@@ -57,13 +57,13 @@ pub record HasElements (elements : List Tree) (m : Machine) : Type 0 where
 -- ## By a log and a count of its own
 
 -- these octets were taken, and these items were noted
-pub record TookOctets (s : SourceSeen) (t : DecodingSeen) (octets : List ℕ) (noted : List Item) : Type 0 where
+pub record TookOctets (s : SourceOver) (t : DecodingSeen) (octets : List ℕ) (noted : List Item) : Type 0 where
   pub left : Consumes s.left s.left_now octets
   pub logged : HasNoted noted t
   pub steps : t.steps_now ≤ t.steps + length (but_gaps noted)
 
 -- so many elements were read
-pub record FilledWhole (w : Setting) (order : Order) (spot : Spot) (s : SourceSeen) (t : DecodingSeen) (m : Machine) (count : ℕ) : Type 0 where
+pub record FilledWhole (w : Setting) (order : Order) (spot : Spot) (s : SourceOver) (t : DecodingSeen) (m : Machine) (count : ℕ) : Type 0 where
   pub octets : List ℕ
   pub elements : List Tree
   pub noted : List Item
@@ -75,7 +75,7 @@ pub record FilledWhole (w : Setting) (order : Order) (spot : Spot) (s : SourceSe
   pub built : HasElements elements m
 
 -- the octets are refused
-pub record FilledBad (w : Setting) (order : Order) (spot : Spot) (s : SourceSeen) (t : DecodingSeen) (place : ℕ) (why : Reason) : Type 0 where
+pub record FilledBad (w : Setting) (order : Order) (spot : Spot) (s : SourceOver) (t : DecodingSeen) (place : ℕ) (why : Reason) : Type 0 where
   pub octets : List ℕ
   pub noted : List Item
   pub refused : PartRefused w order spot octets noted place why
@@ -84,32 +84,32 @@ pub record FilledBad (w : Setting) (order : Order) (spot : Spot) (s : SourceSeen
   pub none_left : why ≡ reason.Truncated → IsAtEnd s.left_now
 
 -- the source failed, and the octets are cut short where they end
-pub record FilledUnread (w : Setting) (order : Order) (spot : Spot) (s : SourceSeen) (t : DecodingSeen) : Type 0 where
+pub record FilledUnread (w : Setting) (order : Order) (spot : Spot) (s : SourceOver) (t : DecodingSeen) : Type 0 where
   pub octets : List ℕ
   pub noted : List Item
   pub short : PartRefused w order spot octets noted (spot.place + length octets) reason.Truncated
   pub took : TookOctets s t octets noted
 
 -- reading was cut off
-pub record FilledPart (w : Setting) (order : Order) (spot : Spot) (s : SourceSeen) (t : DecodingSeen) : Type 0 where
+pub record FilledPart (w : Setting) (order : Order) (spot : Spot) (s : SourceOver) (t : DecodingSeen) : Type 0 where
   pub octets : List ℕ
   pub noted : List Item
   pub cut : PartCut w order spot octets noted
   pub took : TookOctets s t octets noted
 
-abbrev pub FillsNot : Setting → Order → Spot → SourceSeen → DecodingSeen → DecodeFault → Type 0
+abbrev pub FillsNot : Setting → Order → Spot → SourceOver → DecodingSeen → DecodeFault → Type 0
 FillsNot w order spot s t (fault.Bad place why) = FilledBad w order spot s t place why
 FillsNot w order spot s t fault.ReadFault = HasRisen s.faults × FilledUnread w order spot s t
 FillsNot w order spot s t fault.Memory = FilledPart w order spot s t
 
-abbrev pub Fills : Setting → Order → Spot → SourceSeen → DecodingSeen → Machine → Result ℕ DecodeFault → Type 0
+abbrev pub Fills : Setting → Order → Spot → SourceOver → DecodingSeen → Machine → Result ℕ DecodeFault → Type 0
 Fills w order spot s t m (Ok count) = FilledWhole w order spot s t m count
 Fills w order spot s t m (Err e) = FillsNot w order spot s t e
 
 -- ## By the log and the count of the stream
 
 -- So many elements were read, and memory may still fail before they are answered.
-pub record TakenWhole (w : Setting) (order : Order) (spot : Spot) (s : SourceSeen) (t : DecodingSeen) (m : Machine) (count : ℕ) : Type 0 where
+pub record TakenWhole (w : Setting) (order : Order) (spot : Spot) (s : SourceOver) (t : DecodingSeen) (m : Machine) (count : ℕ) : Type 0 where
   pub octets : List ℕ
   pub elements : List Tree
   pub left : Consumes s.left s.left_now octets
@@ -125,6 +125,6 @@ pub record TakenWhole (w : Setting) (order : Order) (spot : Spot) (s : SourceSee
   pub at : m.at ≡ spot.place + length octets
   pub built : HasElements elements m
 
-abbrev pub Takes : Setting → Order → Spot → SourceSeen → DecodingSeen → Machine → Result ℕ DecodeFault → Type 0
+abbrev pub Takes : Setting → Order → Spot → SourceOver → DecodingSeen → Machine → Result ℕ DecodeFault → Type 0
 Takes w order spot s t m (Ok count) = TakenWhole w order spot s t m count
 Takes w order spot s t m (Err e) = IsChunkFault w order spot s t e

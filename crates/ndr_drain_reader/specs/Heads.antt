@@ -2,7 +2,7 @@
 -- `plan` is a plan, `w` a setting of a side of it, `x` is what is kept of the stream after the head, `n` is how many cells there were before it.
 use Rattle.std.specs.Prelude.{◌≡◌, ℕ, List, [], ◌++◌, Result, Ok, Err, replicate}
 use Rattle.nd_base.specs.declared.octets.Order.{Order}
-use Rattle.nd_base.specs.Over.{SourceSeen}
+use Rattle.nd_base.specs.Over.{SourceOver}
 use Rattle.nd_value.specs.declared.item.Item.{Item}
 use Rattle.nd_value.specs.declared.value.Graph.{Graph}
 use Rattle.nd_value.specs.Setting.{Setting}
@@ -21,7 +21,7 @@ use Rattle.ndr_decode.specs.Streaming.{FaultOf, Purpose, Stands, cells_of}
 use Rattle.ndr_drain_laws.specs.parts.Parts.{empty_pipe}
 
 -- The head was read: no root and no referent is due, and the agreements of the parameters hold.
-pub record ReadTo (w : Setting) (legal : IsLegalSide w) (order : Order) (n : ℕ) (source : SourceSeen) (t : DecodingSeen) (x : Stream) : Type 0 where
+pub record ReadTo (w : Setting) (legal : IsLegalSide w) (order : Order) (n : ℕ) (source : SourceOver) (t : DecodingSeen) (x : Stream) : Type 0 where
   pub octets : List ℕ
   pub items : List Item
   pub direct : ℕ
@@ -31,7 +31,7 @@ pub record ReadTo (w : Setting) (legal : IsLegalSide w) (order : Order) (n : ℕ
   pub hold : TestsPass w order octets items direct (between_of x) s seen (parameter_tests w s)
   pub took : Took source t n octets items (cells_of x)
 
-abbrev pub HeadReads : (w : Setting) → IsLegalSide w → Order → ℕ → SourceSeen → DecodingSeen → Stream → Result (Unit {0}) DecodeFault → Type 0
+abbrev pub HeadReads : (w : Setting) → IsLegalSide w → Order → ℕ → SourceOver → DecodingSeen → Stream → Result (Unit {0}) DecodeFault → Type 0
 HeadReads w legal order n source t x (Ok u) = ReadTo w legal order n source t x
 HeadReads w legal order n source t x (Err e) = FaultOf the_head w order [] [] n source t e
 

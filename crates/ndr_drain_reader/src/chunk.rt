@@ -1,7 +1,7 @@
 // A chunk of a pipe, read by a machine of its own, whose graph has the chunk's elements alone.
 ghost use Rattle.std.specs.Prelude.{◌≡◌, ◌≤◌, ◌<◌, ◌-◌, ◌+◌, Some, IfOk, IfErr, OnOk, OnErr};
 ghost use Rattle.std.specs.List.{slice_get};
-ghost use Rattle.nd_base.specs.Over.{source_seen};
+ghost use Rattle.nd_base.specs.Over.{source_over};
 ghost use Rattle.nd_types.specs.declared.types.Operation.{Operation};
 ghost use Rattle.ndr_decoder_state.specs.declared.fault.DecodeFault.TheVariants as fault;
 ghost use Rattle.nd_grammar.specs.decoded.Verdict.{decoding_seen};
@@ -35,14 +35,14 @@ pub(crate) fn read_chunk<S: Source, L: Ledger>(
     requires ready { IsReady intake.old }
     requires pipe { 0 < (intake_seen intake.old).left }
     ensures read { IfOk result (λ vals. (o : Operation) → slice_get (intake_seen intake.old).interface.operations (intake_seen intake.old).op ≡ Some o
-        → IsAnswered (setting_in (intake_seen intake.old) o) (source_seen S.Source.left S.Source.ended S.Source.faults source.old source.new)
+        → IsAnswered (setting_in (intake_seen intake.old) o) (source_over S.Source.seen source.old source.new)
         (decoding_seen items.old items.new (L.number steps.old) (L.number steps.new)) (intake_seen intake.old) (intake_seen intake.new) vals) }
     ensures ready { OnOk result (IsReady intake.new) }
     ensures cause { IfErr result (λ e. (o : Operation) → slice_get (intake_seen intake.old).interface.operations (intake_seen intake.old).op ≡ Some o
         → IsChunkCause (setting_in (intake_seen intake.old) o) (intake_seen intake.old)
-        (source_seen S.Source.left S.Source.ended S.Source.faults source.old source.new)
+        (source_over S.Source.seen source.old source.new)
         (decoding_seen items.old items.new (L.number steps.old) (L.number steps.new)) e) }
-    ensures later { S.Source.faults source.old ≤ S.Source.faults source.new }
+    ensures later { (S.Source.seen source.old).faults ≤ (S.Source.seen source.new).faults }
 {
     let elem = next_run(intake);
     let mut machine = open_chunk(intake, elem)?;
@@ -103,9 +103,9 @@ fn take_chunk<S: Source, L: Ledger>(
 ) -> Result<u32, DecodeFault>
     requires at { IsAtChunk plan.now elem machine.old }
     ensures takes { (p : IsAtChunk plan.now elem machine.old) → p.spot.node - 1 ≡ before
-        → Takes p.w order p.spot (source_seen S.Source.left S.Source.ended S.Source.faults source.old source.new)
+        → Takes p.w order p.spot (source_over S.Source.seen source.old source.new)
         (decoding_seen items.old items.new (L.number steps.old) (L.number steps.new)) machine.new result }
-    ensures later { S.Source.faults source.old ≤ S.Source.faults source.new }
+    ensures later { (S.Source.seen source.old).faults ≤ (S.Source.seen source.new).faults }
 {
     let mut own = items.like(alloc);
     let mut counter = Steps::new(Counted::new());
@@ -137,9 +137,9 @@ fn fill_chunk<S: Source, L: Ledger>(
 ) -> Result<u32, DecodeFault>
     requires at { IsAtChunk plan.now elem machine.old }
     ensures fills { (p : IsAtChunk plan.now elem machine.old)
-        → Fills p.w order p.spot (source_seen S.Source.left S.Source.ended S.Source.faults source.old source.new)
+        → Fills p.w order p.spot (source_over S.Source.seen source.old source.new)
         (decoding_seen items.old items.new (L.number steps.old) (L.number steps.new)) machine.new result }
-    ensures later { S.Source.faults source.old ≤ S.Source.faults source.new }
+    ensures later { (S.Source.seen source.old).faults ≤ (S.Source.seen source.new).faults }
 {
     let count = chunk_count(order, machine, buffer, source, items, steps)?;
     if count == 0 {

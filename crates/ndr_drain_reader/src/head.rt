@@ -1,7 +1,7 @@
 // The head of a stream.
 ghost use Rattle.std.specs.Prelude.{◌≡◌, ◌≤◌, ◌<◌, [], Some, length, option_map, IfOk, IfErr, OnOk};
 ghost use Rattle.std.specs.List.{slice_get};
-ghost use Rattle.nd_base.specs.Over.{source_seen};
+ghost use Rattle.nd_base.specs.Over.{source_over};
 ghost use Rattle.nd_types.specs.declared.types.Operation.{Operation};
 ghost use Rattle.nd_value.specs.Fitting.{setting_beside};
 ghost use Rattle.nd_value.specs.Request.{IsRequestOf};
@@ -43,7 +43,7 @@ pub(crate) fn read_head<S: Source, L: Ledger>(
         (option_map (λ f. f.now) given) }
     ensures read { OnOk result ((o : Operation) → slice_get (intake_seen intake.old).interface.operations (intake_seen intake.old).op ≡ Some o
         → HasHead (setting_beside (intake_seen intake.old).interface o (intake_seen intake.old).side (option_map (λ f. f.now.graph) given.entry))
-        (source_seen S.Source.left S.Source.ended S.Source.faults source.old source.new)
+        (source_over S.Source.seen source.old source.new)
         (decoding_seen items.old items.new (L.number steps.old) (L.number steps.new))
         (intake_seen intake.old) (intake_seen intake.new)) }
     ensures beside { OnOk result ((intake_seen intake.new).given ≡ option_map (λ f. f.now.graph) given.entry) }
@@ -51,9 +51,9 @@ pub(crate) fn read_head<S: Source, L: Ledger>(
     ensures cause { IfErr result (λ e. (o : Operation) → slice_get (intake_seen intake.old).interface.operations (intake_seen intake.old).op ≡ Some o
         → IsHeadCause (setting_beside (intake_seen intake.old).interface o (intake_seen intake.old).side (option_map (λ f. f.now.graph) given.entry))
         (intake_seen intake.old).order
-        (source_seen S.Source.left S.Source.ended S.Source.faults source.old source.new)
+        (source_over S.Source.seen source.old source.new)
         (decoding_seen items.old items.new (L.number steps.old) (L.number steps.new)) e) }
-    ensures later { S.Source.faults source.old ≤ S.Source.faults source.new }
+    ensures later { (S.Source.seen source.old).faults ≤ (S.Source.seen source.new).faults }
 {
     // A request conforms to the inputs of the operation, and what is read of a head is right.
     let _request = Given::beside(given);
@@ -105,10 +105,10 @@ fn read_values<S: Source, L: Ledger>(
     requires begins { Begins (between_of stream.old) }
     requires whole { CanClose stream.old.machine.builder }
     ensures reads { (w : Setting) → (legal : IsLegalSide w) → IsSettingOf plan.now op side w → w.given ≡ option_map (λ f. f.now.graph) given.entry
-        → HeadReads w legal order (cells_of stream.old) (source_seen S.Source.left S.Source.ended S.Source.faults source.old source.new)
+        → HeadReads w legal order (cells_of stream.old) (source_over S.Source.seen source.old source.new)
         (decoding_seen items.old items.new (L.number steps.old) (L.number steps.new)) stream.new result }
     ensures same { OnOk result (purpose_of stream.new ≡ purpose_of stream.old) }
-    ensures later { S.Source.faults source.old ≤ S.Source.faults source.new }
+    ensures later { (S.Source.seen source.old).faults ≤ (S.Source.seen source.new).faults }
 {
     let found = read_roots(plan, op, side, order, stream, buffer, source, items, steps)?;
     let checks = found.checks as usize;

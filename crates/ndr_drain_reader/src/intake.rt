@@ -1,7 +1,7 @@
 // A stream that is read in parts.
 ghost use Rattle.std.specs.Prelude.{◌≡◌, ◌≤◌, ◌<◌, ℕ, Some, length, option_map, IfOk, IfErr, IsErrOf, OnOk, OnErr, true};
 ghost use Rattle.std.specs.List.{slice_get};
-ghost use Rattle.nd_base.specs.Over.{source_seen, HasRisen, count};
+ghost use Rattle.nd_base.specs.Over.{source_over, HasRisen};
 ghost use Rattle.nd_types.specs.declared.types.Operation.{Operation};
 ghost use Rattle.nd_value.specs.Fitting.{setting_beside};
 ghost use Rattle.nd_value.specs.Request.{IsRequestOf};
@@ -103,7 +103,7 @@ impl<'p> Intake<'p> {
             (option_map (λ f. f.now) given) }
         ensures read { OnOk result ((o : Operation) → slice_get (intake_seen self.old).interface.operations (intake_seen self.old).op ≡ Some o
             → HasHead (setting_beside (intake_seen self.old).interface o (intake_seen self.old).side (option_map (λ f. f.now.graph) given.entry))
-            (source_seen S.Source.left S.Source.ended S.Source.faults source.old source.new)
+            (source_over S.Source.seen source.old source.new)
             (decoding_seen items.old items.new (L.number steps.old) (L.number steps.new))
             (intake_seen self.old) (intake_seen self.new)) }
         ensures beside { OnOk result ((intake_seen self.new).given ≡ option_map (λ f. f.now.graph) given.entry) }
@@ -113,10 +113,10 @@ impl<'p> Intake<'p> {
         ensures cause { IfErr result (λ e. (o : Operation) → slice_get (intake_seen self.old).interface.operations (intake_seen self.old).op ≡ Some o
             → IsHeadCause (setting_beside (intake_seen self.old).interface o (intake_seen self.old).side (option_map (λ f. f.now.graph) given.entry))
             (intake_seen self.old).order
-            (source_seen S.Source.left S.Source.ended S.Source.faults source.old source.new)
+            (source_over S.Source.seen source.old source.new)
             (decoding_seen items.old items.new (L.number steps.old) (L.number steps.new)) e) }
-        ensures read_fault { IsErrOf result ReadFault → HasRisen (count S.Source.faults source.old source.new) }
-        ensures later { S.Source.faults source.old ≤ S.Source.faults source.new }
+        ensures read_fault { IsErrOf result ReadFault → HasRisen (source_over S.Source.seen source.old source.new).faults }
+        ensures later { (S.Source.seen source.old).faults ≤ (S.Source.seen source.new).faults }
     {
         match read_head(self, given, source, items, steps) {
             Ok(()) => Ok(()),
@@ -149,17 +149,17 @@ impl<'p> Intake<'p> {
         requires ready { IsReady self.old }
         requires pipe { 0 < (intake_seen self.old).left }
         ensures read { IfOk result (λ vals. (o : Operation) → slice_get (intake_seen self.old).interface.operations (intake_seen self.old).op ≡ Some o
-            → IsAnswered (setting_in (intake_seen self.old) o) (source_seen S.Source.left S.Source.ended S.Source.faults source.old source.new)
+            → IsAnswered (setting_in (intake_seen self.old) o) (source_over S.Source.seen source.old source.new)
             (decoding_seen items.old items.new (L.number steps.old) (L.number steps.new)) (intake_seen self.old) (intake_seen self.new) vals) }
         ensures ready { OnOk result (IsReady self.new) }
         ensures failed { OnErr result (is_failed self.new ≡ true) }
         ensures none_left { OnErr result ((intake_seen self.new).left ≡ 0) }
         ensures cause { IfErr result (λ e. (o : Operation) → slice_get (intake_seen self.old).interface.operations (intake_seen self.old).op ≡ Some o
             → IsChunkCause (setting_in (intake_seen self.old) o) (intake_seen self.old)
-            (source_seen S.Source.left S.Source.ended S.Source.faults source.old source.new)
+            (source_over S.Source.seen source.old source.new)
             (decoding_seen items.old items.new (L.number steps.old) (L.number steps.new)) e) }
-        ensures read_fault { IsErrOf result ReadFault → HasRisen (count S.Source.faults source.old source.new) }
-        ensures later { S.Source.faults source.old ≤ S.Source.faults source.new }
+        ensures read_fault { IsErrOf result ReadFault → HasRisen (source_over S.Source.seen source.old source.new).faults }
+        ensures later { (S.Source.seen source.old).faults ≤ (S.Source.seen source.new).faults }
     {
         match read_chunk(self, source, items, steps) {
             Ok(vals) => Ok(vals),

@@ -13,8 +13,11 @@ pub struct Ends<E: Drop> {
     items: Vec<E>,
 }
 
+/// An end of any type, in a box.
+pub type BoxedEnd = Box<dyn PipeEnd>;
+
 /// A list of boxed ends, one for each pipe of a side, in the order of the pipes.
-pub type PipeEnds = Ends<Box<dyn PipeEnd>>;
+pub type PipeEnds = Ends<BoxedEnd>;
 
 impl<E: PipeEnd> Ends<E> {
     ghost use Rattle.ndr_pipe.specs.Ends.{ends_seen};

@@ -9,6 +9,6 @@ mod file_end;
 mod mem_end;
 
 pub use end::{EndFailed, PipeEnd};
-pub use ends::{Ends, PipeEnds};
+pub use ends::{BoxedEnd, Ends, PipeEnds};
 pub use file_end::FileEnd;
 pub use mem_end::MemEnd;

@@ -6,7 +6,7 @@ use Rattle.std.proofs.lemmas.List.{length-append, take_all}
 use lib.Seq.{drop-append_seam}
 use Rattle.std.proofs.KnownBytes.{Consumes-trans}
 use Rattle.std.specs.Io.KnownBytes.{Consumes}
-use Rattle.nd_base.specs.Over.{SourceSeen, source_seen}
+use Rattle.nd_base.specs.Over.{SourceSeen, SourceOver, source_over}
 use Rattle.nd_base.proofs.Rising.{rose_later}
 use Rattle.rpc_pdu.specs.declared.pdu.Wanted.{Wanted}
 use Rattle.rpc_pdu.specs.declared.pdu.Opening.{Opening}
@@ -42,7 +42,7 @@ reason_of [] r n h = cc
 reason_of (c ∷ cs) r n h = by_reason c.fails c.place c.why cs r n.0 h (reason_of cs r n.1)
 
 -- the end of a source matters to octets that are too short alone
-no_end : (s : SourceSeen) (w : PduReason) → reason_is_short w ≡ false → IsEnd s w
+no_end : (s : SourceOver) (w : PduReason) → reason_is_short w ≡ false → IsEnd s w
 no_end s why.Short e = cc
 no_end s why.Version e = tt
 no_end s why.Kind e = tt
@@ -56,24 +56,24 @@ no_end s why.OtherOperation e = tt
 no_end s why.EmptyPiece e = tt
 no_end s why.StubLong e = tt
 
-short_end : (s : SourceSeen) (w : PduReason) → w ≡ why.Short → HasEnded s → IsEnd s w
+short_end : (s : SourceOver) (w : PduReason) → w ≡ why.Short → HasEnded s → IsEnd s w
 short_end s w e h = subst (IsEnd s) (sym e) h
 
 -- the end of a source is that of each part of a call that goes on to it
-pub end_from : {S : Type 0} (left : S → Option (List ℕ)) (ended : S → Bool) (faults : S → ℕ) (x y z : S) (w : PduReason) → IsEnd (source_seen left ended faults y z) w
-    → IsEnd (source_seen left ended faults x z) w
-end_from left ended faults x y z why.Short h = record { ended = h.ended; none_left = h.none_left }
-end_from left ended faults x y z why.Version h = tt
-end_from left ended faults x y z why.Kind h = tt
-end_from left ended faults x y z why.Flags h = tt
-end_from left ended faults x y z why.Label h = tt
-end_from left ended faults x y z why.OtherOrder h = tt
-end_from left ended faults x y z why.Length h = tt
-end_from left ended faults x y z why.Auth h = tt
-end_from left ended faults x y z why.OtherCall h = tt
-end_from left ended faults x y z why.OtherOperation h = tt
-end_from left ended faults x y z why.EmptyPiece h = tt
-end_from left ended faults x y z why.StubLong h = tt
+pub end_from : {S : Type 0} (shown : S → SourceSeen) (x y z : S) (w : PduReason) → IsEnd (source_over shown y z) w
+    → IsEnd (source_over shown x z) w
+end_from shown x y z why.Short h = record { ended = h.ended; none_left = h.none_left }
+end_from shown x y z why.Version h = tt
+end_from shown x y z why.Kind h = tt
+end_from shown x y z why.Flags h = tt
+end_from shown x y z why.Label h = tt
+end_from shown x y z why.OtherOrder h = tt
+end_from shown x y z why.Length h = tt
+end_from shown x y z why.Auth h = tt
+end_from shown x y z why.OtherCall h = tt
+end_from shown x y z why.OtherOperation h = tt
+end_from shown x y z why.EmptyPiece h = tt
+end_from shown x y z why.StubLong h = tt
 
 -- ## What a part of a fragment says
 
@@ -118,12 +118,12 @@ octets_after os more k e = absurd (omega (arith, e))
 
 -- ## Over a source
 
-module _ {S : Type 0} (left : S → Option (List ℕ)) (ended : S → Bool) (faults : S → ℕ) (want : Wanted) (b : Before) where
-  abbrev seen : S → S → SourceSeen
-  seen x y = source_seen left ended faults x y
+module _ {S : Type 0} (shown : S → SourceSeen) (want : Wanted) (b : Before) where
+  abbrev seen : S → S → SourceOver
+  seen x y = source_over shown x y
 
   -- octets of which none is lacking were taken, and are refused
-  refused_by : (x y : S) (os : List ℕ) (cs : List Check) (p : ℕ) (w : PduReason) → Consumes (left x) (left y) os → NoneShort cs → first_failing cs ≡ Some (p, w)
+  refused_by : (x y : S) (os : List ℕ) (cs : List Check) (p : ℕ) (w : PduReason) → Consumes (shown x).left (shown y).left os → NoneShort cs → first_failing cs ≡ Some (p, w)
       → refusal want b os ≡ Some (p, w) → IsBadFragment want b (seen x y) p w
   refused_by x y os cs p w c n e h = record { os = os; taken = c; refused = h; end = no_end (seen x y) w (reason_of cs (p, w) n e) }
 
@@ -147,14 +147,14 @@ module _ {S : Type 0} (left : S → Option (List ℕ)) (ended : S → Bool) (fau
       refused_by x y head (common_checks want b head) p w t.taken (refl, (refl, (refl, (refl, (refl, (refl, (refl, (refl, tt)))))))) h
       (passes _ _ why.Short (common_checks want b head ++ later_checks want b head) (not_below (length head) 16 least) ∙ one_fails (common_checks want b head) (later_checks want b head) (p, w) h)
 
-  both_taken : (x y z : S) (os more : List ℕ) → Consumes (left x) (left y) os → Consumes (left y) (left z) more → Consumes (left x) (left z) (os ++ more)
-  both_taken x y z os more c d = Consumes-trans (left x) (left y) (left z) os more c d
+  both_taken : (x y z : S) (os more : List ℕ) → Consumes (shown x).left (shown y).left os → Consumes (shown y).left (shown z).left more → Consumes (shown x).left (shown z).left (os ++ more)
+  both_taken x y z os more c d = Consumes-trans (shown x).left (shown y).left (shown z).left os more c d
 
   -- the rest of the header does not come
-  pub no_rest : (x y z : S) (head : List ℕ) (c : CommonFields) (e : PduFault) → faults x ≤ faults y → IsTaken (seen x y) 16 head → IsSeen want b head c → 24 ≤ c.header_length
+  pub no_rest : (x y z : S) (head : List ℕ) (c : CommonFields) (e : PduFault) → (shown x).faults ≤ (shown y).faults → IsTaken (seen x y) 16 head → IsSeen want b head c → 24 ≤ c.header_length
       → IsTakeCause (seen y z) (b.at + 16) (c.header_length - 16) e → IsFragmentCause want b (seen x z) e
   no_rest x y z head c fault.Memory low t s least h = tt
-  no_rest x y z head c fault.ReadFault low t s least h = rose_later (faults x) (faults y) (faults z) low h
+  no_rest x y z head c fault.ReadFault low t s least h = rose_later (shown x).faults (shown y).faults (shown z).faults low h
   no_rest x y z head c (fault.Bad p w) low t s least h =
       let all : length (head ++ h.os) ≡ length head + length h.os = length-append head h.os in
       let few : 16 + length h.os < header_length want head = omega (arith, h.fewer, s.header, least) in
@@ -162,7 +162,7 @@ module _ {S : Type 0} (left : S → Option (List ℕ)) (ended : S → Bool) (fau
         os = head ++ h.os;
         taken = both_taken x y z head h.os t.taken h.taken;
         refused = cut_header want b head h.os t.all s.passed few ∙ ap (λ (q : ℕ). Some (q, why.Short)) there ∙ ap (λ (v : PduReason). Some (p, v)) (sym h.short);
-        end = end_from left ended faults x y z w (short_end (seen y z) w h.short h.end);
+        end = end_from shown x y z w (short_end (seen y z) w h.short h.end);
       }
 
   -- the whole header
@@ -239,11 +239,12 @@ module _ {S : Type 0} (left : S → Option (List ℕ)) (ended : S → Bool) (fau
       (ap (refusal want b) (sym (append-nil (head ++ rest))) ∙ after_all head rest [] c t.all s i ∙ one_fails (whole_list c rest) (end_checks b ((head ++ rest) ++ [])) (p, w) h)
 
   -- the stub data do not come
-  pub no_part : (x y z v : S) (head rest : List ℕ) (c : CommonFields) (e : PduFault) → faults x ≤ faults y → faults y ≤ faults z → IsTaken (seen x y) 16 head → IsSeen want b head c
+  pub no_part : (x y z v : S) (head rest : List ℕ) (c : CommonFields) (e : PduFault) → (shown x).faults ≤ (shown y).faults → (shown y).faults ≤ (shown z).faults
+      → IsTaken (seen x y) 16 head → IsSeen want b head c
       → 24 ≤ c.header_length → c.header_length ≤ c.fragment_length → IsTaken (seen y z) (c.header_length - 16) rest → first_failing (whole_list c rest) ≡ None
       → IsTakeCause (seen z v) (b.at + c.header_length) (c.fragment_length - c.header_length) e → IsFragmentCause want b (seen x v) e
   no_part x y z v head rest c fault.Memory low low' t s least within u k h = tt
-  no_part x y z v head rest c fault.ReadFault low low' t s least within u k h = rose_later (faults x) (faults z) (faults v) (omega (arith, low, low')) h
+  no_part x y z v head rest c fault.ReadFault low low' t s least within u k h = rose_later (shown x).faults (shown z).faults (shown v).faults (omega (arith, low, low')) h
   no_part x y z v head rest c (fault.Bad p w) low low' t s least within u k h =
       let i = whole_header head rest c t.all u.all least s in
       let all : length ((head ++ rest) ++ h.os) ≡ length (head ++ rest) + length h.os = length-append (head ++ rest) h.os in
@@ -255,7 +256,7 @@ module _ {S : Type 0} (left : S → Option (List ℕ)) (ended : S → Bool) (fau
         refused = after_all head rest h.os c t.all s i ∙ all_pass (whole_list c rest) (end_checks b ((head ++ rest) ++ h.os)) k
             ∙ fails _ _ why.Short [] (below (length ((head ++ rest) ++ h.os)) (fragment_length ((head ++ rest) ++ h.os)) lacking)
             ∙ ap (λ (q : ℕ). Some (q, why.Short)) there ∙ ap (λ (r : PduReason). Some (p, r)) (sym h.short);
-        end = end_from left ended faults x z v w (short_end (seen z v) w h.short h.end);
+        end = end_from shown x z v w (short_end (seen z v) w h.short h.end);
       }
 
   -- all came
@@ -308,5 +309,5 @@ by_residual (Err x) e P h p = subst P (sym h) p
 pub seen_at : (want : Wanted) (opening : Option Opening) (at : ℕ) (stub head : List ℕ) (c : CommonFields) → IsSeen want (before opening at []) head c → IsSeen want (before opening at stub) head c
 seen_at want opening at stub head c s = record { passed = s.passed; order = s.order; call = s.call; wide = s.wide; header = s.header; last = s.last }
 
-pub held : (s : SourceSeen) (count : ℕ) (buffer os : List ℕ) → os ≡ buffer → IsTaken s count buffer → IsTaken s count os
+pub held : (s : SourceOver) (count : ℕ) (buffer os : List ℕ) → os ≡ buffer → IsTaken s count buffer → IsTaken s count os
 held s count buffer os e t = subst (IsTaken s count) (sym e) t

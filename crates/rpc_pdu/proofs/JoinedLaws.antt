@@ -5,7 +5,7 @@ use Rattle.std.proofs.lemmas.Bool.Decides.{nat_tests}
 use Rattle.std.proofs.lemmas.List.{length-append, length-take-le, length-drop}
 use Rattle.std.proofs.KnownBytes.{Consumes-trans}
 use Rattle.std.specs.Io.KnownBytes.{Consumes}
-use Rattle.nd_base.specs.Over.{SourceSeen, source_seen, HasRisen}
+use Rattle.nd_base.specs.Over.{SourceSeen, SourceOver, source_over, HasRisen}
 use Rattle.nd_base.proofs.Rising.{rose_later}
 use Rattle.nd_base.specs.declared.TheConstants.{STREAM_LIMIT}
 use Rattle.rpc_pdu.specs.declared.pdu.Wanted.{Wanted}
@@ -45,18 +45,18 @@ grown want b os f last few =
     let sum : fragment_length os ≡ header_length want os + part_length want os = omega (arith, there.header) in
     record { few = omega (arith, few, all, part, some, sum, most); room = omega (arith, all, part, room); more = omega (arith, all, part, some) }
 
-module _ {S : Type 0} (left : S → Option (List ℕ)) (ended : S → Bool) (faults : S → ℕ) (want : Wanted) where
-  abbrev seen : S → S → SourceSeen
-  seen x y = source_seen left ended faults x y
+module _ {S : Type 0} (shown : S → SourceSeen) (want : Wanted) where
+  abbrev seen : S → S → SourceOver
+  seen x y = source_over shown x y
 
   -- fragments that were taken so far
   abbrev pub Earlier : S → S → Before → Type 0
-  Earlier x y b = (earlier : List ℕ) × (AreEarlier want earlier b × Consumes (left x) (left y) earlier)
+  Earlier x y b = (earlier : List ℕ) × (AreEarlier want earlier b × Consumes (shown x).left (shown y).left earlier)
 
   pub one_more_taken : (x y z : S) (b next : Before) (last : Bool) → Earlier x y b → IsWholeFragment want b (seen y z) next last → last ≡ false → Earlier x z next
   one_more_taken x y z b next last e w not_last =
       subst (Earlier x z) w.after_is
-      (e.0 ++ w.os, (one_more e.0 b w.os e.1.0 w.fragment (w.last_is ∙ not_last), Consumes-trans (left x) (left y) (left z) e.0 w.os e.1.1 w.taken))
+      (e.0 ++ w.os, (one_more e.0 b w.os e.1.0 w.fragment (w.last_is ∙ not_last), Consumes-trans (shown x).left (shown y).left (shown z).left e.0 w.os e.1.1 w.taken))
 
   pub grown_by : (y z : S) (b next : Before) (last : Bool) → IsWholeFragment want b (seen y z) next last → last ≡ false → b.at ≤ 41 * length b.stub → Grown b next
   grown_by y z b next last w not_last few = subst (Grown b) w.after_is (grown want b w.os w.fragment (w.last_is ∙ not_last) few)
@@ -70,7 +70,7 @@ module _ {S : Type 0} (left : S → Option (List ℕ)) (ended : S → Bool) (fau
       let here : opened b.opening (opening_of want w.os) ≡ o = let some : Some (opened b.opening (opening_of want w.os)) ≡ Some o = ap (λ q. q.opening) w.after_is in cc in
       record {
         octets = e.0 ++ w.os;
-        taken = Consumes-trans (left x) (left y) (left z) e.0 w.os e.1.1 w.taken;
+        taken = Consumes-trans (shown x).left (shown y).left (shown z).left e.0 w.os e.1.1 w.taken;
         count = omega (arith, all, c.at, w.fragment.whole, same, taken);
         fragments = record {
           earlier = e.0;
@@ -88,12 +88,12 @@ module _ {S : Type 0} (left : S → Option (List ℕ)) (ended : S → Bool) (fau
         };
       }
 
-  pub cause_of : (x y z : S) (b : Before) (e : PduFault) → faults x ≤ faults y → Earlier x y b → IsFragmentCause want b (seen y z) e → IsJoinCause want (seen x z) e
+  pub cause_of : (x y z : S) (b : Before) (e : PduFault) → (shown x).faults ≤ (shown y).faults → Earlier x y b → IsFragmentCause want b (seen y z) e → IsJoinCause want (seen x z) e
   cause_of x y z b fault.Memory low d h = tt
-  cause_of x y z b fault.ReadFault low d h = rose_later (faults x) (faults y) (faults z) low h
+  cause_of x y z b fault.ReadFault low d h = rose_later (shown x).faults (shown y).faults (shown z).faults low h
   cause_of x y z b (fault.Bad p w) low d h = record {
     octets = d.0 ++ h.os;
-    taken = Consumes-trans (left x) (left y) (left z) d.0 h.os d.1.1 h.taken;
+    taken = Consumes-trans (shown x).left (shown y).left (shown z).left d.0 h.os d.1.1 h.taken;
     bad = record { earlier = d.0; before = b; are_earlier = d.1.0; rest = h.os; end_to_end = refl; refused = h.refused };
-    end = end_from left ended faults x y z w h.end;
+    end = end_from shown x y z w h.end;
   }

@@ -1,7 +1,7 @@
 -- Where the octets of a source are known, what is refused is the answer for all of them.
 use Rattle.std.proofs.Common.{◌≡◌, ◌∙◌, ◌⊎◌, inl, inr, ℕ, List, [], ◌∷◌, ◌++◌, Option, Some, None, refl, ap, sym, subst, append-nil}
 use Rattle.std.specs.Io.KnownBytes.{Consumes, IsAtEnd}
-use Rattle.nd_base.specs.Over.{SourceSeen}
+use Rattle.nd_base.specs.Over.{SourceOver}
 use Rattle.rpc_pdu.specs.declared.pdu.Wanted.{Wanted}
 use Rattle.rpc_pdu.specs.declared.pdu.Joined.{Joined}
 use Rattle.rpc_pdu.specs.declared.pdu.PduReason.{PduReason}
@@ -23,7 +23,7 @@ rest_of (Some xs) None os all c e = absurd c
 rest_of (Some xs) (Some ys) os all c e = record { rest = ys; split = sym (same_list xs all e) ∙ c; end = λ h. h }
 
 -- the octets are too short and the source has ended, or they are not too short
-ended_or_not : (s : SourceSeen) (w : PduReason) → IsEnd s w → IsAtEnd s.left_now ⊎ (w ≡ why.Short → ⊥)
+ended_or_not : (s : SourceOver) (w : PduReason) → IsEnd s w → IsAtEnd s.left_now ⊎ (w ≡ why.Short → ⊥)
 ended_or_not s why.Short h = inl h.none_left
 ended_or_not s why.Version h = inr (λ e. cc)
 ended_or_not s why.Kind h = inr (λ e. cc)
@@ -37,10 +37,10 @@ ended_or_not s why.OtherOperation h = inr (λ e. cc)
 ended_or_not s why.EmptyPiece h = inr (λ e. cc)
 ended_or_not s why.StubLong h = inr (λ e. cc)
 
-bad_by : (want : Wanted) (s : SourceSeen) (place : ℕ) (w : PduReason) (os all : List ℕ) → BadPdu want os place w → Rest s.left_now os all → IsAtEnd s.left_now ⊎ (w ≡ why.Short → ⊥) → BadPdu
+bad_by : (want : Wanted) (s : SourceOver) (place : ℕ) (w : PduReason) (os all : List ℕ) → BadPdu want os place w → Rest s.left_now os all → IsAtEnd s.left_now ⊎ (w ≡ why.Short → ⊥) → BadPdu
     want all place w
 bad_by want s place w os all b r (inl h) = subst (λ (l : List ℕ). BadPdu want l place w) (sym (r.split ∙ ap (λ (l : List ℕ). os ++ l) (r.end h) ∙ append-nil os)) b
 bad_by want s place w os all b r (inr h) = subst (λ (l : List ℕ). BadPdu want l place w) (sym r.split) (bad_stays want os r.rest place w b h)
 
-pub known_bad : (want : Wanted) (s : SourceSeen) (place : ℕ) (w : PduReason) → IsRefused want s place w → (all : List ℕ) → s.left ≡ Some all → BadPdu want all place w
+pub known_bad : (want : Wanted) (s : SourceOver) (place : ℕ) (w : PduReason) → IsRefused want s place w → (all : List ℕ) → s.left ≡ Some all → BadPdu want all place w
 known_bad want s place w r all e = bad_by want s place w r.octets all r.bad (rest_of s.left s.left_now r.octets all r.taken e) (ended_or_not s w r.end)

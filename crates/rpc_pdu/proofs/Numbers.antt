@@ -1,7 +1,7 @@
 -- The fragments of a request state an operation number, and those of a response none.
 use Rattle.std.proofs.Common.{◌≡◌, ℕ, List, Option, Some, None, refl, subst}
 use Rattle.nd_base.specs.declared.octets.Order.{Order}
-use Rattle.nd_base.specs.Over.{SourceSeen}
+use Rattle.nd_base.specs.Over.{SourceOver}
 use Rattle.rpc_pdu.specs.declared.pdu.Wanted.{Wanted}
 use Rattle.rpc_pdu.specs.declared.pdu.Wanted.TheVariants.{Request, Response}
 use Rattle.rpc_pdu.specs.declared.pdu.Opening.{Opening}
@@ -34,5 +34,5 @@ call_number want octets order call opnum stub f =
     subst (λ (o : Opening). HasNumber want o.opnum) f.states
     (first_number want f.before.opening (opening_of want f.last) (earlier_number want f.earlier f.before f.are_earlier) (own_number want f.last))
 
-pub joined_number : (want : Wanted) (s : SourceSeen) (j : Joined) → IsJoined want s j → HasNumber want j.opnum
+pub joined_number : (want : Wanted) (s : SourceOver) (j : Joined) → IsJoined want s j → HasNumber want j.opnum
 joined_number want s j h = call_number want h.octets j.order j.call j.opnum j.stub h.fragments

@@ -4,7 +4,7 @@ use Rattle.std.specs.Prelude.{drop, Option, Some, None, ⊤}
 use Rattle.std.specs.Io.KnownBytes.{Consumes, IsAtEnd}
 use Rattle.nd_base.specs.declared.octets.Order.{Order}
 use Rattle.nd_base.specs.declared.octets.Order.TheVariants.{Big, Little}
-use Rattle.nd_base.specs.Over.{SourceSeen, HasRisen}
+use Rattle.nd_base.specs.Over.{SourceOver, HasRisen}
 use Rattle.nd_types.specs.Number.{spelling}
 use Rattle.rpc_pdu.specs.declared.pdu.Wanted.{Wanted}
 use Rattle.rpc_pdu.specs.declared.pdu.Wanted.TheVariants.{Request, Response}
@@ -85,31 +85,31 @@ pub record SameCall (octets other : List ℕ) (order order' : Order) (call call'
 -- `s` is the source over the call.
 
 -- Octets were taken that are the fragments of a call, and no others.
-pub record IsJoined (want : Wanted) (s : SourceSeen) (j : Joined) : Type 0 where
+pub record IsJoined (want : Wanted) (s : SourceOver) (j : Joined) : Type 0 where
   pub octets : List ℕ
   pub taken : Consumes s.left s.left_now octets
   pub count : length octets ≡ j.taken
   pub fragments : Fragments octets want j.order j.call j.opnum j.stub
 
 -- the source has ended, and has nothing left
-pub record HasEnded (s : SourceSeen) : Type 0 where
+pub record HasEnded (s : SourceOver) : Type 0 where
   pub ended : s.ended ≡ true
   pub none_left : IsAtEnd s.left_now
 
 -- whether more octets could have come: only octets that are too short are refused at the end
-abbrev pub IsEnd : SourceSeen → PduReason → Type 0
+abbrev pub IsEnd : SourceOver → PduReason → Type 0
 IsEnd s why.Short = HasEnded s
 IsEnd s _ = ⊤
 
 -- Octets were taken that are refused, whatever follows them; or they are too short, and nothing follows.
-pub record IsRefused (want : Wanted) (s : SourceSeen) (place : ℕ) (why : PduReason) : Type 0 where
+pub record IsRefused (want : Wanted) (s : SourceOver) (place : ℕ) (why : PduReason) : Type 0 where
   pub octets : List ℕ
   pub taken : Consumes s.left s.left_now octets
   pub bad : BadPdu want octets place why
   pub end : IsEnd s why
 
 -- why fragments are not joined; running out of memory needs no cause
-abbrev pub IsJoinCause : Wanted → SourceSeen → PduFault → Type 0
+abbrev pub IsJoinCause : Wanted → SourceOver → PduFault → Type 0
 IsJoinCause want s fault.Memory = ⊤
 IsJoinCause want s fault.ReadFault = HasRisen s.faults
 IsJoinCause want s (fault.Bad place why) = IsRefused want s place why
@@ -117,12 +117,12 @@ IsJoinCause want s (fault.Bad place why) = IsRefused want s place why
 -- ### One fragment
 
 -- so many octets were taken
-pub record IsTaken (s : SourceSeen) (count : ℕ) (os : List ℕ) : Type 0 where
+pub record IsTaken (s : SourceOver) (count : ℕ) (os : List ℕ) : Type 0 where
   pub taken : Consumes s.left s.left_now os
   pub all : length os ≡ count
 
 -- fewer octets came than were wanted at a place
-pub record IsCut (s : SourceSeen) (at count place : ℕ) (w : PduReason) : Type 0 where
+pub record IsCut (s : SourceOver) (at count place : ℕ) (w : PduReason) : Type 0 where
   pub os : List ℕ
   pub taken : Consumes s.left s.left_now os
   pub fewer : length os < count
@@ -130,7 +130,7 @@ pub record IsCut (s : SourceSeen) (at count place : ℕ) (w : PduReason) : Type 
   pub short : w ≡ why.Short
   pub end : HasEnded s
 
-abbrev pub IsTakeCause : SourceSeen → ℕ → ℕ → PduFault → Type 0
+abbrev pub IsTakeCause : SourceOver → ℕ → ℕ → PduFault → Type 0
 IsTakeCause s at count fault.Memory = ⊤
 IsTakeCause s at count fault.ReadFault = HasRisen s.faults
 IsTakeCause s at count (fault.Bad place why) = IsCut s at count place why
@@ -159,7 +159,7 @@ abbrev pub IsStated : Option Opening → Option ℕ → CommonFields → Opening
 IsStated opening operation c o = o ≡ opened opening (record { order = c.order; call = c.call; opnum = operation })
 
 -- one fragment was taken, and this stands after it
-pub record IsWholeFragment (want : Wanted) (b : Before) (s : SourceSeen) (next : Before) (last : Bool) : Type 0 where
+pub record IsWholeFragment (want : Wanted) (b : Before) (s : SourceOver) (next : Before) (last : Bool) : Type 0 where
   pub os : List ℕ
   pub taken : Consumes s.left s.left_now os
   pub fragment : IsFragment want b os
@@ -167,13 +167,13 @@ pub record IsWholeFragment (want : Wanted) (b : Before) (s : SourceSeen) (next :
   pub after_is : after want b os ≡ next
 
 -- octets were taken which are refused as a fragment
-pub record IsBadFragment (want : Wanted) (b : Before) (s : SourceSeen) (place : ℕ) (why : PduReason) : Type 0 where
+pub record IsBadFragment (want : Wanted) (b : Before) (s : SourceOver) (place : ℕ) (why : PduReason) : Type 0 where
   pub os : List ℕ
   pub taken : Consumes s.left s.left_now os
   pub refused : refusal want b os ≡ Some (place, why)
   pub end : IsEnd s why
 
-abbrev pub IsFragmentCause : Wanted → Before → SourceSeen → PduFault → Type 0
+abbrev pub IsFragmentCause : Wanted → Before → SourceOver → PduFault → Type 0
 IsFragmentCause want b s fault.Memory = ⊤
 IsFragmentCause want b s fault.ReadFault = HasRisen s.faults
 IsFragmentCause want b s (fault.Bad place why) = IsBadFragment want b s place why

@@ -1,7 +1,7 @@
 // The fragments of a call are fetched from a source, and their stub data are joined.
 ghost use Rattle.std.specs.Prelude.{◌≡◌, ℕ, ◌+◌, ◌-◌, ◌*◌, ◌≤◌, ◌<◌, ◌^◌, [], ◌++◌, length, List, Option, Some, None, true, false, IfOk, IfErr, OnOk};
 ghost use Rattle.std.specs.Io.KnownBytes.{Consumes};
-ghost use Rattle.nd_base.specs.Over.{source_seen};
+ghost use Rattle.nd_base.specs.Over.{source_over};
 ghost use Rattle.nd_base.specs.declared.TheConstants.{STREAM_LIMIT};
 ghost use Rattle.rpc_pdu.specs.Checks.{before};
 ghost use Rattle.rpc_pdu.specs.Fragments.{HasNumber, IsJoined, IsJoinCause, IsTaken, IsTakeCause, IsWholeFragment, IsFragmentCause};
@@ -27,10 +27,10 @@ struct Taken {
 /// fragment in which one does. `ReadFault` if the source failed. `Memory` if memory ran out: it takes memory for the stub data and for one
 /// fragment, a piece at a time, before each piece is fetched. What a header claims takes none.
 pub fn join<S: Source>(alloc: Global, want: Wanted, source: &mut S) -> Result<Joined, PduFault>
-    ensures joined { IfOk result (IsJoined want (source_seen S.Source.left S.Source.ended S.Source.faults source.old source.new)) }
+    ensures joined { IfOk result (IsJoined want (source_over S.Source.seen source.old source.new)) }
     ensures number { IfOk result (λ j. HasNumber want j.opnum) }
-    ensures refused { IfErr result (IsJoinCause want (source_seen S.Source.left S.Source.ended S.Source.faults source.old source.new)) }
-    ensures later { S.Source.faults source.old ≤ S.Source.faults source.new }
+    ensures refused { IfErr result (IsJoinCause want (source_over S.Source.seen source.old source.new)) }
+    ensures later { (S.Source.seen source.old).faults ≤ (S.Source.seen source.new).faults }
 {
     let Ok(mut intake) = Intake::new(alloc) else {
         return Err(PduFault::Memory);
@@ -67,10 +67,10 @@ fn take_fragment<S: Source>(
     requires few { at ≤ 41 * length stub.old }
     requires room { length stub.old ≤ STREAM_LIMIT }
     ensures taken { IfOk result (λ t. IsWholeFragment want (before opening at stub.old)
-        (source_seen S.Source.left S.Source.ended S.Source.faults source.old source.new) (before (Some t.opening) t.at stub.new) t.last) }
+        (source_over S.Source.seen source.old source.new) (before (Some t.opening) t.at stub.new) t.last) }
     ensures refused { IfErr result (IsFragmentCause want (before opening at stub.old)
-        (source_seen S.Source.left S.Source.ended S.Source.faults source.old source.new)) }
-    ensures later { S.Source.faults source.old ≤ S.Source.faults source.new }
+        (source_over S.Source.seen source.old source.new)) }
+    ensures later { (S.Source.seen source.old).faults ≤ (S.Source.seen source.new).faults }
 {
     take(intake, source, at, 16)?;
     let common = check_common_fields(want, opening, at, intake.octets())?;
@@ -111,9 +111,9 @@ fn add(stub: &mut Octets, part: &[u8]) -> Result<(), PduFault>
 // Fetches so many octets.
 fn take<S: Source>(intake: &mut Intake, source: &mut S, at: u32, count: u32) -> Result<(), PduFault>
     requires small { at + count < 2 ^ 32 }
-    ensures taken { IfOk result (λ _. IsTaken (source_seen S.Source.left S.Source.ended S.Source.faults source.old source.new) count intake.new) }
-    ensures fault { IfErr result (IsTakeCause (source_seen S.Source.left S.Source.ended S.Source.faults source.old source.new) at count) }
-    ensures later { S.Source.faults source.old ≤ S.Source.faults source.new }
+    ensures taken { IfOk result (λ _. IsTaken (source_over S.Source.seen source.old source.new) count intake.new) }
+    ensures fault { IfErr result (IsTakeCause (source_over S.Source.seen source.old source.new) at count) }
+    ensures later { (S.Source.seen source.old).faults ≤ (S.Source.seen source.new).faults }
 {
     match intake.gap(source, at, count) {
         Ok(()) => Ok(()),

@@ -2,7 +2,7 @@
 ghost use Rattle.std.specs.Prelude.{◌≡◌, ℕ, ◌≤◌, ◌<◌, ◌^◌, List, length, ◌++◌, ◌⊎◌, Option, Some};
 ghost use Rattle.nd_base.specs.declared.TheConstants.{STREAM_LIMIT};
 ghost use Rattle.nd_base.specs.declared.octets.Order.{Order};
-ghost use Rattle.nd_base.specs.Over.{SourceSeen};
+ghost use Rattle.nd_base.specs.Over.{SourceOver};
 ghost use Rattle.rpc_pdu.specs.declared.pdu.Wanted.{Wanted};
 ghost use Rattle.rpc_pdu.specs.declared.pdu.Head.{Head};
 ghost use Rattle.rpc_pdu.specs.declared.pdu.PduReason.{PduReason};
@@ -41,6 +41,6 @@ pub fn pieces_are_fragments()
 
 /// If the octets that a source has left are known, a refusal of `join` is that of all of these octets, even if not all were asked for.
 pub fn refusal_of_all()
-    ensures { (want : Wanted) (s : SourceSeen) (place : ℕ) (w : PduReason) → IsRefused want s place w
+    ensures { (want : Wanted) (s : SourceOver) (place : ℕ) (w : PduReason) → IsRefused want s place w
         → (all : List ℕ) → s.left ≡ Some all → BadPdu want all place w }
 {}

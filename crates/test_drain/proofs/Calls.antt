@@ -2,7 +2,7 @@
 use Rattle.std.proofs.Common.{◌≡◌, ◌∙◌, ◌<◌, ℕ, List, Option, Some, None, ap, length, subst, sym}
 use Rattle.std.specs.List.{slice_get}
 use Rattle.nd_base.specs.declared.octets.Order.{Order}
-use Rattle.nd_base.specs.Over.{SourceSeen}
+use Rattle.nd_base.specs.Over.{SourceOver}
 use Rattle.nd_types.specs.declared.interface.Interface.{Interface}
 use Rattle.nd_types.specs.declared.types.Operation.{Operation}
 use Rattle.nd_types.specs.declared.types.Side.{Side}
@@ -24,15 +24,15 @@ begins tie op side order i known begun =
     let (o, there) = item_at tie.operations op known in
     subst (λ t. i.op < length t.operations) (sym (begun o there).interface_is) (subst (λ n. n < length tie.operations) (sym (begun o there).op_is) known)
 
-pub after_head : (w : Operation → Setting) (s : SourceSeen) (t : DecodingSeen) (i now : IntakeSeen) → i.op < length i.interface.operations
+pub after_head : (w : Operation → Setting) (s : SourceOver) (t : DecodingSeen) (i now : IntakeSeen) → i.op < length i.interface.operations
     → ((o : Operation) → slice_get i.interface.operations i.op ≡ Some o → HasHead (w o) s t i now) → now.phase ≡ Reading
 after_head w s t i now known read = let (o, there) = item_at i.interface.operations i.op known in (read o there).phase
 
-moved : (w : Setting) (s : SourceSeen) (t : DecodingSeen) (i now : IntakeSeen) (vals : Option (List Tree)) → IsAnswered w s t i now vals → now.phase ≡ i.phase
+moved : (w : Setting) (s : SourceOver) (t : DecodingSeen) (i now : IntakeSeen) (vals : Option (List Tree)) → IsAnswered w s t i now vals → now.phase ≡ i.phase
 moved w s t i now None h = ap (λ j. j.phase) h.moved
 moved w s t i now (Some vs) h = ap (λ j. j.phase) h.0.moved
 
-pub after_chunk : (s : SourceSeen) (t : DecodingSeen) (i now : IntakeSeen) (vals : Option (List Tree)) → i.op < length i.interface.operations
+pub after_chunk : (s : SourceOver) (t : DecodingSeen) (i now : IntakeSeen) (vals : Option (List Tree)) → i.op < length i.interface.operations
     → ((o : Operation) → slice_get i.interface.operations i.op ≡ Some o → IsAnswered (setting_in i o) s t i now vals) → i.phase ≡ Reading → now.phase ≡ Reading
 after_chunk s t i now vals known read reading =
     let (o, there) = item_at i.interface.operations i.op known in moved (setting_in i o) s t i now vals (read o there) ∙ reading

@@ -6,7 +6,7 @@ use Rattle.std.specs.Prelude.{◌≡◌, ◌≤◌, ℕ, ◌+◌, Bool, true, fa
 use Rattle.std.specs.List.{AllByRecursion}
 use Rattle.std.specs.Io.KnownBytes.{Consumes, IsAtEnd}
 use Rattle.nd_base.specs.declared.octets.Order.{Order}
-use Rattle.nd_base.specs.Over.{SourceSeen}
+use Rattle.nd_base.specs.Over.{SourceOver}
 use Rattle.nd_types.specs.declared.types.Class.TheVariants.{Ref}
 use Rattle.nd_types.specs.declared.types.TypeDef.{TypeDef}
 use Rattle.nd_types.specs.declared.types.TypeDef.TheVariants as def
@@ -58,7 +58,7 @@ pub record RepresentsAlone (w : Setting) (order : Order) (octets : List ℕ) (g 
 
 -- The octets fetched are exactly those that the graph takes; the source told them first, if it tells its octets, and has the others left.
 -- The items of the graph's stream were logged; each of them but the gaps is a step, and so is each cell.
-pub record IsDecoded (w : Setting) (order : Order) (s : SourceSeen) (taken : ℕ) (g : Graph) (t : DecodingSeen) : Type 0 where
+pub record IsDecoded (w : Setting) (order : Order) (s : SourceOver) (taken : ℕ) (g : Graph) (t : DecodingSeen) : Type 0 where
   pub fetched : List ℕ
   pub left : Consumes s.left s.left_now fetched
   pub taken_is : length fetched ≡ taken
@@ -105,7 +105,7 @@ pub record IsCounted (w : Setting) (order : Order) (fetched : List ℕ) (earlier
   pub by_octets : t.steps_now ≤ t.steps + length fetched + length (root_list w)
 
 -- Reading was cut off: the octets that were fetched were read through some entries, which were logged and counted.
-pub record IsCutOff (w : Setting) (order : Order) (s : SourceSeen) (t : DecodingSeen) : Type 0 where
+pub record IsCutOff (w : Setting) (order : Order) (s : SourceOver) (t : DecodingSeen) : Type 0 where
   pub fetched : List ℕ
   pub left : Consumes s.left s.left_now fetched
   pub earlier : List EntryAt
@@ -129,7 +129,7 @@ fetched_to _ n x = x.at + size_at x.at x.entry.kind
 
 -- The octets fetched are refused, and those that begin with them, at the same place and for the same reason, whatever follows. They end with the
 -- refused entry. Everything before it was read, was logged and is counted.
-pub record IsRefused (w : Setting) (order : Order) (s : SourceSeen) (place : ℕ) (why : Reason) (t : DecodingSeen) : Type 0 where
+pub record IsRefused (w : Setting) (order : Order) (s : SourceOver) (place : ℕ) (why : Reason) (t : DecodingSeen) : Type 0 where
   pub fetched : List ℕ
   pub left : Consumes s.left s.left_now fetched
   -- Truncated is answered only where the source has ended, and has nothing left
@@ -147,7 +147,7 @@ pub record IsRefused (w : Setting) (order : Order) (s : SourceSeen) (place : ℕ
 -- ## Octets that the source did not give
 
 -- Reading was cut off by the source, and the octets that were fetched are cut short where they end: the next entry lacks some of its own.
-pub record IsUnread (w : Setting) (order : Order) (s : SourceSeen) (t : DecodingSeen) : Type 0 where
+pub record IsUnread (w : Setting) (order : Order) (s : SourceOver) (t : DecodingSeen) : Type 0 where
   pub cut : IsCutOff w order s t
   pub short : Bad w order cut.fetched (length cut.fetched) reason.Truncated
   pub as_far : short.earlier ≡ cut.earlier

@@ -5,7 +5,7 @@ use Rattle.std.specs.Prelude.{cond, not, if◌then◌else◌}
 use Rattle.std.specs.Io.KnownBytes.{Consumes, IsAtEnd}
 use Rattle.std.proofs.KnownBytes.{Consumes-trans}
 use Rattle.nd_base.specs.declared.octets.Order.{Order}
-use Rattle.nd_base.specs.Over.{SourceSeen}
+use Rattle.nd_base.specs.Over.{SourceOver}
 use Rattle.nd_value.specs.declared.item.Item.{Item}
 use Rattle.nd_value.specs.Logged.{Logged}
 use Rattle.nd_value.specs.Setting.{Setting}
@@ -33,7 +33,7 @@ noted_twice xs ys g = go g.keeps
     go true = ap (λ u. record { keeps = true; items = u }) (append_assoc g.items xs ys)
     go false = refl
 
-module _ (a b c : SourceSeen) (s t u : DecodingSeen) (f : Follows a b c s t u) where
+module _ (a b c : SourceOver) (s t u : DecodingSeen) (f : Follows a b c s t u) where
   taken_twice : (xs ys : List ℕ) → Consumes a.left a.left_now xs → Consumes b.left b.left_now ys → Consumes c.left c.left_now (xs ++ ys)
   taken_twice xs ys x y =
       subst (λ o. Consumes o c.left_now (xs ++ ys)) (sym f.before)

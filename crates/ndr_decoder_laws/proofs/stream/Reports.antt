@@ -3,7 +3,7 @@ use Rattle.std.proofs.Common.{◌≡◌, ◌≤◌, ℕ, ◌+◌, true, List, []
 use Rattle.std.proofs.lemmas.List.{append-nil}
 use Rattle.std.specs.Io.KnownBytes.{Consumes, IsAtEnd}
 use Rattle.nd_base.specs.declared.octets.Order.{Order}
-use Rattle.nd_base.specs.Over.{SourceSeen}
+use Rattle.nd_base.specs.Over.{SourceOver}
 use Rattle.nd_types.specs.Number.{AreOctets}
 use Rattle.nd_value.specs.declared.item.Item.{Item}
 use Rattle.nd_value.specs.declared.value.Graph.{Graph}
@@ -24,7 +24,7 @@ use Rattle.ndr_decoder_laws.proofs.verdict.ReadThrough.{read_in_part}
 use Rattle.ndr_decoder_laws.proofs.verdict.Refused.{refused_numbered, refused_there, stays_refused, no_graph}
 use Rattle.ndr_decoder_laws.specs.stream.Report.{AreCells, IsReported, StreamRefused, StreamCut, the_stream}
 
-module _ (w : Setting) (side : IsLegalSide w) (order : Order) (s : SourceSeen) (t : DecodingSeen) where
+module _ (w : Setting) (side : IsLegalSide w) (order : Order) (s : SourceOver) (t : DecodingSeen) where
   pub counted_so : (fetched : List ℕ) (seen : List EntryAt) (noted : List Item) (n : ℕ) → items order fetched seen ≡ noted → AreCells w seen n → IsReported noted n t
       → IsReadThrough w order fetched seen
       → IsCounted w order fetched seen t

@@ -4,7 +4,7 @@
 use Rattle.std.specs.Prelude.{◌≡◌, ◌≤◌, ℕ, ◌+◌, true, List, ◌++◌, length}
 use Rattle.std.specs.Io.KnownBytes.{Consumes, IsAtEnd}
 use Rattle.nd_base.specs.declared.octets.Order.{Order}
-use Rattle.nd_base.specs.Over.{SourceSeen}
+use Rattle.nd_base.specs.Over.{SourceOver}
 use Rattle.nd_types.specs.Number.{AreOctets}
 use Rattle.nd_value.specs.declared.item.Item.{Item}
 use Rattle.nd_value.specs.Setting.{Setting}
@@ -20,19 +20,19 @@ use Rattle.ndr_decoder_laws.specs.stream.Report.{Extent, StreamRefused, StreamCu
 
 -- So many octets were taken from the source, and these items were noted. Each of them but the gaps was counted, and each cell that got its number:
 -- `n'` are there then.
-pub record Took (source : SourceSeen) (t : DecodingSeen) (n : ℕ) (octets : List ℕ) (items : List Item) (n' : ℕ) : Type 0 where
+pub record Took (source : SourceOver) (t : DecodingSeen) (n : ℕ) (octets : List ℕ) (items : List Item) (n' : ℕ) : Type 0 where
   pub left : Consumes source.left source.left_now octets
   pub logged : HasNoted items t
   pub steps : t.steps_now + n ≡ t.steps + length (but_gaps items) + n'
 
 -- The same at a fault: no more were counted.
-pub record TookPart (source : SourceSeen) (t : DecodingSeen) (n : ℕ) (octets : List ℕ) (items : List Item) (n' : ℕ) : Type 0 where
+pub record TookPart (source : SourceOver) (t : DecodingSeen) (n : ℕ) (octets : List ℕ) (items : List Item) (n' : ℕ) : Type 0 where
   pub left : Consumes source.left source.left_now octets
   pub logged : HasNoted items t
   pub steps : t.steps_now + n ≤ t.steps + length (but_gaps items) + n'
 
 -- What was seen over two calls, one after the other: over the first (`a`, `s`), the second (`b`, `t`) and both (`c`, `u`).
-pub record Follows (a b c : SourceSeen) (s t u : DecodingSeen) : Type 0 where
+pub record Follows (a b c : SourceOver) (s t u : DecodingSeen) : Type 0 where
   pub before : c.left ≡ a.left
   pub middle : a.left_now ≡ b.left
   pub after : c.left_now ≡ b.left_now
@@ -45,7 +45,7 @@ pub record Follows (a b c : SourceSeen) (s t u : DecodingSeen) : Type 0 where
   pub steps_now : u.steps_now ≡ t.steps_now
 
 -- It is refused at a place and for a reason; where its octets are cut short, the source has ended.
-pub record Refused (x : Extent) (w : Setting) (order : Order) (fetched : List ℕ) (noted : List Item) (n : ℕ) (source : SourceSeen) (t : DecodingSeen)
+pub record Refused (x : Extent) (w : Setting) (order : Order) (fetched : List ℕ) (noted : List Item) (n : ℕ) (source : SourceOver) (t : DecodingSeen)
     (place : ℕ) (why : Reason) : Type 0 where
   pub octets : List ℕ
   pub items : List Item
@@ -56,7 +56,7 @@ pub record Refused (x : Extent) (w : Setting) (order : Order) (fetched : List �
   pub none_left : why ≡ reason.Truncated → IsAtEnd source.left_now
 
 -- The source failed before the octets of the next entry had come: those fetched are cut short where they end.
-pub record Unread (x : Extent) (w : Setting) (order : Order) (fetched : List ℕ) (noted : List Item) (n : ℕ) (source : SourceSeen)
+pub record Unread (x : Extent) (w : Setting) (order : Order) (fetched : List ℕ) (noted : List Item) (n : ℕ) (source : SourceOver)
     (t : DecodingSeen) : Type 0 where
   pub octets : List ℕ
   pub items : List Item
@@ -65,7 +65,7 @@ pub record Unread (x : Extent) (w : Setting) (order : Order) (fetched : List ℕ
   pub took : TookPart source t n octets items n'
 
 -- Reading was cut off.
-pub record CutOff (x : Extent) (w : Setting) (order : Order) (fetched : List ℕ) (noted : List Item) (n : ℕ) (source : SourceSeen)
+pub record CutOff (x : Extent) (w : Setting) (order : Order) (fetched : List ℕ) (noted : List Item) (n : ℕ) (source : SourceOver)
     (t : DecodingSeen) : Type 0 where
   pub octets : List ℕ
   pub items : List Item

@@ -3,7 +3,7 @@ ghost use Rattle.std.specs.Prelude.{Bool, ◌≡◌, ◌≤◌, ◌+◌, ◌++�
 ghost use Rattle.std.specs.List.{slice_get};
 ghost use Rattle.std.specs.Io.KnownBytes.{Consumes, IsAtEnd};
 ghost use Rattle.nd_base.specs.declared.octets.Order.{Order};
-ghost use Rattle.nd_base.specs.Over.{SourceSeen};
+ghost use Rattle.nd_base.specs.Over.{SourceOver};
 ghost use Rattle.nd_types.specs.declared.types.Class.TheVariants.{Ref, Full};
 ghost use Rattle.nd_types.specs.declared.types.Operation.{Operation};
 ghost use Rattle.nd_types.specs.declared.types.TypeDef.TheVariants.{Pointer};
@@ -213,18 +213,18 @@ pub fn homes_have_faults()
 
 /// What two calls come to, one after the other: so of the stream, and so of its head.
 pub fn calls_are_joined()
-    ensures took { (a b c : SourceSeen) (s t u : DecodingSeen) → Follows a b c s t u → (n m k : ℕ) (os ps : List ℕ) (xs ys : List Item)
+    ensures took { (a b c : SourceOver) (s t u : DecodingSeen) → Follows a b c s t u → (n m k : ℕ) (os ps : List ℕ) (xs ys : List Item)
         → Took a s n os xs m → Took b t m ps ys k → Took c u n (os ++ ps) (xs ++ ys) k }
-    ensures refused { (a b c : SourceSeen) (s t u : DecodingSeen) → Follows a b c s t u
+    ensures refused { (a b c : SourceOver) (s t u : DecodingSeen) → Follows a b c s t u
         → (x : Extent) (w : Setting) (order : Order) (fetched : List ℕ) (noted : List Item) (n m : ℕ) (os : List ℕ) (xs : List Item)
         → Took a s n os xs m
         → (place : ℕ) (why : Reason) → Refused x w order (fetched ++ os) (noted ++ xs) m b t place why
         → Refused x w order fetched noted n c u place why }
-    ensures unread { (a b c : SourceSeen) (s t u : DecodingSeen) → Follows a b c s t u
+    ensures unread { (a b c : SourceOver) (s t u : DecodingSeen) → Follows a b c s t u
         → (x : Extent) (w : Setting) (order : Order) (fetched : List ℕ) (noted : List Item) (n m : ℕ) (os : List ℕ) (xs : List Item)
         → Took a s n os xs m
         → Unread x w order (fetched ++ os) (noted ++ xs) m b t → Unread x w order fetched noted n c u }
-    ensures cut_off { (a b c : SourceSeen) (s t u : DecodingSeen) → Follows a b c s t u
+    ensures cut_off { (a b c : SourceOver) (s t u : DecodingSeen) → Follows a b c s t u
         → (x : Extent) (w : Setting) (order : Order) (fetched : List ℕ) (noted : List Item) (n m : ℕ) (os : List ℕ) (xs : List Item)
         → Took a s n os xs m
         → CutOff x w order (fetched ++ os) (noted ++ xs) m b t → CutOff x w order fetched noted n c u }
@@ -280,23 +280,23 @@ pub fn references_are_few()
 /// What is reported of octets that the plain reader reads to their end, that it refuses, that it finds cut short where the source failed, or of which
 /// it passes some entries. Where it refuses what comes before the pipes, it refuses the stream.
 pub fn streams_are_reported()
-    ensures decoded { (w : Setting) → IsLegalSide w → (order : Order) (s : SourceSeen) (t : DecodingSeen) (fetched : List ℕ) → AreOctets fetched
+    ensures decoded { (w : Setting) → IsLegalSide w → (order : Order) (s : SourceOver) (t : DecodingSeen) (fetched : List ℕ) → AreOctets fetched
         → (seen : List EntryAt) (noted : List Item) (g : Graph) (count : ℕ)
         → (read_stream w order fetched).progress ≡ going (length fetched) seen → (read_stream w order fetched).graph ≡ g
         → items order fetched seen ≡ noted → Consumes s.left s.left_now fetched
         → length fetched ≡ count → HasNoted noted t → t.steps_now ≡ t.steps + length (but_gaps noted) + length g.cells
         → IsDecoded w order s count g t }
     ensures refused { (w : Setting) → IsLegalSide w
-        → (order : Order) (s : SourceSeen) (t : DecodingSeen) (fetched : List ℕ) (noted : List Item) (n place : ℕ) (why : Reason)
+        → (order : Order) (s : SourceOver) (t : DecodingSeen) (fetched : List ℕ) (noted : List Item) (n place : ℕ) (why : Reason)
         → StreamRefused the_stream w order fetched noted n place why
         → IsReported noted n t → Consumes s.left s.left_now fetched → (why ≡ Truncated → s.ended ≡ true) → (why ≡ Truncated → IsAtEnd s.left_now)
         → IsRefused w order s place why t }
     ensures unread { (w : Setting) → IsLegalSide w
-        → (order : Order) (s : SourceSeen) (t : DecodingSeen) (fetched : List ℕ) (noted : List Item) (n : ℕ)
+        → (order : Order) (s : SourceOver) (t : DecodingSeen) (fetched : List ℕ) (noted : List Item) (n : ℕ)
         → StreamRefused the_stream w order fetched noted n (length fetched) Truncated
         → IsReported noted n t → Consumes s.left s.left_now fetched → IsUnread w order s t }
     ensures cut_off { (w : Setting) → IsLegalSide w
-        → (order : Order) (s : SourceSeen) (t : DecodingSeen) (fetched : List ℕ) (noted : List Item) (n : ℕ)
+        → (order : Order) (s : SourceOver) (t : DecodingSeen) (fetched : List ℕ) (noted : List Item) (n : ℕ)
         → StreamCut the_stream w order fetched noted n
         → IsReported noted n t → Consumes s.left s.left_now fetched → IsCutOff w order s t }
     ensures of_head { (w : Setting) (order : Order) (octets : List ℕ) (x : Extent) (noted : List Item) (n place : ℕ) (why : Reason)

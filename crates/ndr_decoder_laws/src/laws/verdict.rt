@@ -1,7 +1,7 @@
 //! Laws of the plain reader and of what a decoder reports, each the contract of a function that does nothing.
 ghost use Rattle.std.specs.Prelude.{◌≡◌, ◌≤◌, ◌+◌, ◌++◌, ℕ, List, Some, None, length};
 ghost use Rattle.nd_base.specs.declared.octets.Order.{Order};
-ghost use Rattle.nd_base.specs.Over.{SourceSeen};
+ghost use Rattle.nd_base.specs.Over.{SourceOver};
 ghost use Rattle.nd_types.specs.Number.{AreOctets};
 ghost use Rattle.nd_value.specs.declared.value.Graph.{Graph};
 ghost use Rattle.nd_value.specs.Canon.{IsCanon};
@@ -71,6 +71,6 @@ pub fn few_steps()
 
 /// Octets are not refused if a first part of what the source had left represents a graph that conforms.
 pub fn never_refused()
-    ensures { (w : Setting) (order : Order) (s : SourceSeen) (place : ℕ) (why : Reason) (t : DecodingSeen) (part rest : List ℕ) (g : Graph)
+    ensures { (w : Setting) (order : Order) (s : SourceOver) (place : ℕ) (why : Reason) (t : DecodingSeen) (part rest : List ℕ) (g : Graph)
         → s.left ≡ Some (part ++ rest) → Conforms w g → Represents w order part g → ¬ IsRefused w order s place why t }
 {}

@@ -1,5 +1,5 @@
 use Rattle.std.proofs.Common.{Some, IfOk, IfErr, ap, subst}
-use Rattle.nd_base.specs.Over.{source_seen}
+use Rattle.nd_base.specs.Over.{source_over}
 use Rattle.nd_base.specs.contracts.plain.PlainSourceSource.TheImpl.{ghosts}
 use Rattle.nd_value.specs.Fitting.{setting_of}
 use Rattle.command_decode.specs.Decoded.{IsDecoding}
@@ -16,6 +16,6 @@ returns-clause-printed c o there =
 pub returns-clause-refused : goal.returns-clause-refused
 returns-clause-refused c o there =
     subst (λ k. IfErr c.print_octets.result (IsStubCause c.args.stub (setting_of c.args.interface.now o k) c.args.order)) c.side.ensures
-    (stub_refused_by c.print_octets.result (source_seen ghosts.left ghosts.ended ghosts.faults c.new-source.result c.print_octets.new.input) c.args.stub _ c.args.order
+    (stub_refused_by c.print_octets.result (source_over ghosts.seen c.new-source.result c.print_octets.new.input) c.args.stub _ c.args.order
     (c.print_octets.ensures.refused o there)
     (record { left = ap (λ os. Some os) c.new-source.ensures.left; reads = no_rise }))

@@ -12,13 +12,13 @@ pub returns-in_err-tree-clause-absent : goal.returns-in_err-tree-clause-absent
 returns-in_err-tree-clause-absent g c =
     let (idl, text, same) = one_source c.args.sources.now c.requires in
     let p = err_from_is_err_and c.from_residual.result c.from_residual.ensures.1 in
-    rw (p.1, p.2) (main_absent (g.F.Files.absences c.args.files.now) (g.F.Files.absences c.args.files.now) text _ (c.in_err-tree.ensures.fault idl text same))
+    rw (p.1, p.2) (main_absent (g.F.Files.seen c.args.files.now).absences (g.F.Files.seen c.args.files.now).absences text _ (c.in_err-tree.ensures.fault idl text same))
 
 pub returns-in_err-tree-clause-failed : goal.returns-in_err-tree-clause-failed
 returns-in_err-tree-clause-failed g c =
     let (idl, text, same) = one_source c.args.sources.now c.requires in
     let p = err_from_is_err_and c.from_residual.result c.from_residual.ensures.1 in
-    rw (p.1, p.2) (main_failed (g.F.Files.faults c.args.files.now) (g.F.Files.faults c.args.files.now) text _ (c.in_err-tree.ensures.fault idl text same))
+    rw (p.1, p.2) (main_failed (g.F.Files.seen c.args.files.now).faults (g.F.Files.seen c.args.files.now).faults text _ (c.in_err-tree.ensures.fault idl text same))
 
 pub returns-clause-scope : goal.returns-clause-scope
 returns-clause-scope g c idl text same =
@@ -26,7 +26,7 @@ returns-clause-scope g c idl text same =
     (λ scope r. record {
       tree = seen_tree c.in_ok-tree.tree;
       parsed = c.in_ok-tree.ensures.tree idl text same;
-      names = subst (λ s. IsResolved (g.F.Files.held c.args.files.now) s (seen_tree c.in_ok-tree.tree) (seen_scope c.resolve.new.sources scope)) same r;
+      names = subst (λ s. IsResolved (g.F.Files.seen c.args.files.now).held s (seen_tree c.in_ok-tree.tree) (seen_scope c.resolve.new.sources scope)) same r;
     }) c.resolve.ensures.scope
 
 pub returns-clause-fault : goal.returns-clause-fault
@@ -35,21 +35,21 @@ returns-clause-fault g c idl text same =
     (λ e r. inr (
       seen_tree c.in_ok-tree.tree,
       c.in_ok-tree.ensures.tree idl text same,
-      subst (λ s. IsRefused (g.F.Files.held c.args.files.now) s (seen_tree c.in_ok-tree.tree) c.resolve.new.sources e) same r,
+      subst (λ s. IsRefused (g.F.Files.seen c.args.files.now).held s (seen_tree c.in_ok-tree.tree) c.resolve.new.sources e) same r,
     )) c.resolve.ensures.fault
 
 pub returns-in_err-tree-clause-asked : goal.returns-in_err-tree-clause-asked
 returns-in_err-tree-clause-asked g c idl text same = record {
   rest = [];
-  asked_is = sym (append-nil (g.F.Files.asked c.args.files.now));
-  due = λ content acf. main_asked (g.F.Files.held c.args.files.now) idl acf;
+  asked_is = sym (append-nil (g.F.Files.seen c.args.files.now).asked);
+  due = λ content acf. main_asked (g.F.Files.seen c.args.files.now).held idl acf;
 }
 
 pub returns-clause-asked : goal.returns-clause-asked
 returns-clause-asked g c idl text same =
-    imports_asked (g.F.Files.held c.args.files.now) idl text (seen_tree c.in_ok-tree.tree) c.args.sources.now (g.F.Files.asked c.args.files.now) (g.F.Files.asked c.resolve.new.files)
+    imports_asked (g.F.Files.seen c.args.files.now).held idl text (seen_tree c.in_ok-tree.tree) c.args.sources.now (g.F.Files.seen c.args.files.now).asked (g.F.Files.seen c.resolve.new.files).asked
     (c.in_ok-tree.ensures.tree idl text same) same c.resolve.ensures.asked
 
 pub returns-clause-all_asked : goal.returns-clause-all_asked
 returns-clause-all_asked g c =
-    always c.resolve.result (c.resolve.ensures.all_asked ∙ ap (λ n. g.F.Files.asked c.args.files.now ++ names_of (drop n c.resolve.new.sources)) c.requires)
+    always c.resolve.result (c.resolve.ensures.all_asked ∙ ap (λ n. (g.F.Files.seen c.args.files.now).asked ++ names_of (drop n c.resolve.new.sources)) c.requires)

@@ -1,12 +1,12 @@
 use Rattle.std.proofs.Common.{option_map}
-use Rattle.nd_base.specs.Over.{files_seen}
+use Rattle.nd_base.specs.Over.{files_over}
 use Rattle.command_compile.specs.Compiled.{FileNames}
 use Rattle.command_compile.proofs.Explained.{incompatible}
 use Rattle.command_compile.proofs.places.compat_why.Goals as goal
 
 pub returns-clause-refused : goal.returns-clause-refused
 returns-clause-refused g c =
-    let f = files_seen g.F.Files.held g.F.Files.absences g.F.Files.faults g.F.Files.asked c.args.files.now c.compile_both.new.files in
+    let f = files_over g.F.Files.seen c.args.files.now c.compile_both.new.files in
     let old : FileNames = record { idl = c.args.old.now; acf = option_map (λ a. a.now) c.args.old_acf } in
     let new : FileNames = record { idl = c.args.new.now; acf = option_map (λ a. a.now) c.args.new_acf } in
     let v = c.in-Ok.versions in

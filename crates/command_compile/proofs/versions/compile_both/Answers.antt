@@ -1,14 +1,14 @@
 use Rattle.std.proofs.Common.{option_map, refl}
 use Rattle.std.proofs.lemmas.Result.{err_from_is_err_and}
-use Rattle.nd_base.specs.Over.{files_seen}
+use Rattle.nd_base.specs.Over.{files_over}
 use Rattle.command_compile.specs.Compiled.{FileNames}
 use Rattle.command_compile.proofs.Parts.{Follows, both_asked, both_compiled, both_refused}
 use Rattle.command_compile.proofs.versions.compile_both.Goals as goal
 
 pub returns-in_err-newer-clause-asked : goal.returns-in_err-newer-clause-asked
 returns-in_err-newer-clause-asked g c =
-    let f1 = files_seen g.F.Files.held g.F.Files.absences g.F.Files.faults g.F.Files.asked c.args.files.now c.compile.new.files in
-    let f2 = files_seen g.F.Files.held g.F.Files.absences g.F.Files.faults g.F.Files.asked c.compile.new.files c.compile-2.new.files in
+    let f1 = files_over g.F.Files.seen c.args.files.now c.compile.new.files in
+    let f2 = files_over g.F.Files.seen c.compile.new.files c.compile-2.new.files in
     let follows : Follows f1 f2 =
     record { held = c.in_ok-older.ensures.same; asked = refl; absences = refl; faults = refl; later = c.in_ok-older.ensures.later; absences_later = c.in_ok-older.ensures.absences_later } in
     let old : FileNames = record { idl = c.args.old.now; acf = option_map (λ a. a.now) c.args.old_acf } in
@@ -18,8 +18,8 @@ returns-in_err-newer-clause-asked g c =
 pub returns-in_err-newer-clause-refused : goal.returns-in_err-newer-clause-refused
 returns-in_err-newer-clause-refused g c =
     let p = err_from_is_err_and c.from_residual-in_err-newer.result c.from_residual-in_err-newer.ensures.1 in
-    let f1 = files_seen g.F.Files.held g.F.Files.absences g.F.Files.faults g.F.Files.asked c.args.files.now c.compile.new.files in
-    let f2 = files_seen g.F.Files.held g.F.Files.absences g.F.Files.faults g.F.Files.asked c.compile.new.files c.compile-2.new.files in
+    let f1 = files_over g.F.Files.seen c.args.files.now c.compile.new.files in
+    let f2 = files_over g.F.Files.seen c.compile.new.files c.compile-2.new.files in
     let follows : Follows f1 f2 =
     record { held = c.in_ok-older.ensures.same; asked = refl; absences = refl; faults = refl; later = c.in_ok-older.ensures.later; absences_later = c.in_ok-older.ensures.absences_later } in
     let old : FileNames = record { idl = c.args.old.now; acf = option_map (λ a. a.now) c.args.old_acf } in
@@ -28,8 +28,8 @@ returns-in_err-newer-clause-refused g c =
 
 pub returns-clause-asked : goal.returns-clause-asked
 returns-clause-asked g c =
-    let f1 = files_seen g.F.Files.held g.F.Files.absences g.F.Files.faults g.F.Files.asked c.args.files.now c.compile.new.files in
-    let f2 = files_seen g.F.Files.held g.F.Files.absences g.F.Files.faults g.F.Files.asked c.compile.new.files c.compile-2.new.files in
+    let f1 = files_over g.F.Files.seen c.args.files.now c.compile.new.files in
+    let f2 = files_over g.F.Files.seen c.compile.new.files c.compile-2.new.files in
     let follows : Follows f1 f2 =
     record { held = c.in_ok-older.ensures.same; asked = refl; absences = refl; faults = refl; later = c.in_ok-older.ensures.later; absences_later = c.in_ok-older.ensures.absences_later } in
     let old : FileNames = record { idl = c.args.old.now; acf = option_map (λ a. a.now) c.args.old_acf } in
@@ -38,8 +38,8 @@ returns-clause-asked g c =
 
 pub returns-clause-compiled : goal.returns-clause-compiled
 returns-clause-compiled g c =
-    let f1 = files_seen g.F.Files.held g.F.Files.absences g.F.Files.faults g.F.Files.asked c.args.files.now c.compile.new.files in
-    let f2 = files_seen g.F.Files.held g.F.Files.absences g.F.Files.faults g.F.Files.asked c.compile.new.files c.compile-2.new.files in
+    let f1 = files_over g.F.Files.seen c.args.files.now c.compile.new.files in
+    let f2 = files_over g.F.Files.seen c.compile.new.files c.compile-2.new.files in
     let follows : Follows f1 f2 =
     record { held = c.in_ok-older.ensures.same; asked = refl; absences = refl; faults = refl; later = c.in_ok-older.ensures.later; absences_later = c.in_ok-older.ensures.absences_later } in
     let old : FileNames = record { idl = c.args.old.now; acf = option_map (λ a. a.now) c.args.old_acf } in

@@ -1,7 +1,7 @@
 use Rattle.std.proofs.Common.{◌≡◌, Some, option_map, refl, sym, subst}
 use Rattle.std.proofs.lemmas.Result.{err_from_is_err_and}
 use Rattle.std.specs.List.{slice_get}
-use Rattle.nd_base.specs.Over.{source_seen}
+use Rattle.nd_base.specs.Over.{source_over}
 use Rattle.nd_types.specs.declared.interface.Interface.{Interface}
 use Rattle.nd_value.specs.Fitting.{setting_beside}
 use Rattle.command_decode.proofs.Steps.{over_interface, no_end}
@@ -11,7 +11,7 @@ use Rattle.command_decode.proofs.explaining.explain_octets.Goals as goal
 pub returns-in_err-decoded-clause-refused : goal.returns-in_err-decoded-clause-refused
 returns-in_err-decoded-clause-refused g c o there =
     let p = err_from_is_err_and c.from_residual-in_err-decoded.result c.from_residual-in_err-decoded.ensures.1 in
-    let s = source_seen g.S.Source.left g.S.Source.ended g.S.Source.faults c.args.input.now c.decode.new.input in
+    let s = source_over g.S.Source.seen c.args.input.now c.decode.new.input in
     let q = option_map (λ f. f.now.graph) c.args.given in
     let known = subst (λ (j : Interface). slice_get j.operations c.args.op ≡ Some o) (sym c.in_ok-plan.ensures) there in
     rw (p.1, p.2) (over_interface s o c.args.side q c.args.order _ _ _ c.in_ok-plan.ensures (c.in_err-decoded.ensures.refused o known))
@@ -19,8 +19,8 @@ returns-in_err-decoded-clause-refused g c o there =
 pub returns-in_err-end-clause-refused : goal.returns-in_err-end-clause-refused
 returns-in_err-end-clause-refused g c o there =
     let p = err_from_is_err_and c.from_residual-in_err-end.result c.from_residual-in_err-end.ensures.1 in
-    let s = source_seen g.S.Source.left g.S.Source.ended g.S.Source.faults c.args.input.now c.decode.new.input in
-    let t = source_seen g.S.Source.left g.S.Source.ended g.S.Source.faults c.decode.new.input c.end.new.input in
+    let s = source_over g.S.Source.seen c.args.input.now c.decode.new.input in
+    let t = source_over g.S.Source.seen c.decode.new.input c.end.new.input in
     let q = option_map (λ f. f.now.graph) c.args.given in
     let d = c.in_ok-decoded.decoded in
     let known = subst (λ (j : Interface). slice_get j.operations c.args.op ≡ Some o) (sym c.in_ok-plan.ensures) there in
@@ -35,8 +35,8 @@ returns-in_err-text-clause-refused g c o there =
 
 pub returns-clause-explained : goal.returns-clause-explained
 returns-clause-explained g c o there =
-    let s = source_seen g.S.Source.left g.S.Source.ended g.S.Source.faults c.args.input.now c.decode.new.input in
-    let t = source_seen g.S.Source.left g.S.Source.ended g.S.Source.faults c.decode.new.input c.end.new.input in
+    let s = source_over g.S.Source.seen c.args.input.now c.decode.new.input in
+    let t = source_over g.S.Source.seen c.decode.new.input c.end.new.input in
     let i = c.args.interface.now in
     let q = option_map (λ f. f.now.graph) c.args.given in
     let d = c.in_ok-decoded.decoded in

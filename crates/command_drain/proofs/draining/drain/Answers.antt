@@ -1,5 +1,5 @@
 use Rattle.std.proofs.Common.{option_map, length}
-use Rattle.nd_base.specs.Over.{source_seen}
+use Rattle.nd_base.specs.Over.{source_over}
 use Rattle.nd_value.specs.Fitting.{setting_beside}
 use Rattle.ndr_pipe.specs.Ends.{ends_over, ends_seen}
 use Rattle.ndr_drain.specs.Drained.{pipe_count}
@@ -11,7 +11,7 @@ returns-in-Ok-clause-taken g c o there =
     let q = option_map (λ f. f.now.graph) c.args.given in
     let w = setting_beside c.args.interface.now o c.args.side q in
     let d = c.in-Ok.drained in
-    taken_is (source_seen g.S.Source.left g.S.Source.ended g.S.Source.faults c.args.input.now c.drain_over.new.source) (ends_over g.E.PipeEnd.seen c.args.ends.now c.drain_over.new.ends) w
+    taken_is (source_over g.S.Source.seen c.args.input.now c.drain_over.new.source) (ends_over g.E.PipeEnd.seen c.args.ends.now c.drain_over.new.ends) w
     c.args.order _ d.taken d.fit.graph (enough_of (pipe_count w) (length (ends_seen g.E.PipeEnd.seen c.args.ends.now)) (c.in-Ok.ensures.enough o there)) (c.in-Ok.ensures.drained o there)
 
 pub returns-in-Err-Memory-clause-refused : goal.returns-in-Err-Memory-clause-refused

@@ -1,7 +1,7 @@
 use Rattle.std.proofs.Common.{◌≡◌, Some, option_map, refl, sym, subst, inl}
 use Rattle.std.proofs.lemmas.Result.{err_from_is_err_and}
 use Rattle.std.specs.List.{slice_get}
-use Rattle.nd_base.specs.Over.{source_seen}
+use Rattle.nd_base.specs.Over.{source_over}
 use Rattle.nd_value.specs.Fitting.{setting_beside}
 use Rattle.ndr_pipe.specs.Ends.{ends_over}
 use Rattle.command_drain.proofs.Steps.{printed_is, no_end, no_text, not_taken}
@@ -16,7 +16,7 @@ returns-in_err-plan-clause-refused g c o there =
 pub returns-in_err-drained-clause-refused : goal.returns-in_err-drained-clause-refused
 returns-in_err-drained-clause-refused g c o there =
     let p = err_from_is_err_and c.from_residual-in_err-drained.result c.from_residual-in_err-drained.ensures.1 in
-    let s = source_seen g.S.Source.left g.S.Source.ended g.S.Source.faults c.args.input.now c.drain.new.input in
+    let s = source_over g.S.Source.seen c.args.input.now c.drain.new.input in
     let e = ends_over g.E.PipeEnd.seen c.args.ends.now c.drain.new.ends in
     let q = option_map (λ f. f.now.graph) c.args.given in
     rw (p.1, p.2) (not_taken s e (setting_beside c.args.interface.now o c.args.side q) c.args.order _ (c.in_err-drained.ensures.refused o there))
@@ -24,8 +24,8 @@ returns-in_err-drained-clause-refused g c o there =
 pub returns-in_err-end-clause-refused : goal.returns-in_err-end-clause-refused
 returns-in_err-end-clause-refused g c o there =
     let p = err_from_is_err_and c.from_residual-in_err-end.result c.from_residual-in_err-end.ensures.1 in
-    let s = source_seen g.S.Source.left g.S.Source.ended g.S.Source.faults c.args.input.now c.drain.new.input in
-    let u = source_seen g.S.Source.left g.S.Source.ended g.S.Source.faults c.drain.new.input c.end.new.input in
+    let s = source_over g.S.Source.seen c.args.input.now c.drain.new.input in
+    let u = source_over g.S.Source.seen c.drain.new.input c.end.new.input in
     let e = ends_over g.E.PipeEnd.seen c.args.ends.now c.drain.new.ends in
     let q = option_map (λ f. f.now.graph) c.args.given in
     let d = c.in_ok-drained.drained in
@@ -35,8 +35,8 @@ returns-in_err-end-clause-refused g c o there =
 pub returns-in_err-text-clause-refused : goal.returns-in_err-text-clause-refused
 returns-in_err-text-clause-refused g c o there =
     let p = err_from_is_err_and c.from_residual-in_err-text.result c.from_residual-in_err-text.ensures.1 in
-    let s = source_seen g.S.Source.left g.S.Source.ended g.S.Source.faults c.args.input.now c.drain.new.input in
-    let u = source_seen g.S.Source.left g.S.Source.ended g.S.Source.faults c.drain.new.input c.end.new.input in
+    let s = source_over g.S.Source.seen c.args.input.now c.drain.new.input in
+    let u = source_over g.S.Source.seen c.drain.new.input c.end.new.input in
     let e = ends_over g.E.PipeEnd.seen c.args.ends.now c.drain.new.ends in
     let q = option_map (λ f. f.now.graph) c.args.given in
     let d = c.in_ok-drained.drained in
@@ -45,8 +45,8 @@ returns-in_err-text-clause-refused g c o there =
 
 pub returns-clause-printed : goal.returns-clause-printed
 returns-clause-printed g c o there =
-    let s = source_seen g.S.Source.left g.S.Source.ended g.S.Source.faults c.args.input.now c.drain.new.input in
-    let u = source_seen g.S.Source.left g.S.Source.ended g.S.Source.faults c.drain.new.input c.end.new.input in
+    let s = source_over g.S.Source.seen c.args.input.now c.drain.new.input in
+    let u = source_over g.S.Source.seen c.drain.new.input c.end.new.input in
     let e = ends_over g.E.PipeEnd.seen c.args.ends.now c.drain.new.ends in
     let i = c.args.interface.now in
     let q = option_map (λ f. f.now.graph) c.args.given in

@@ -9,4 +9,5 @@ returns-clause-taken g c =
     let some = i.0 in
     let past = c.loop-came-test.false in
     let long = i.1.1.1 in
-    subst (λ (os : List ℕ). Consumes (g.S.Source.left c.args.input.now) (g.S.Source.left c.loop-came.input) os) (take_all c.loop-came.came c.loop-came.octets (omega (arith, some, past, long))) i.1.0
+    subst (λ (os : List ℕ). Consumes (g.S.Source.seen c.args.input.now).left (g.S.Source.seen c.loop-came.input).left os)
+    (take_all c.loop-came.came c.loop-came.octets (omega (arith, some, past, long))) i.1.0

@@ -5,8 +5,8 @@ use Rattle.command_streams.proofs.label.fill.Given as goal
 abbrev pub invariant-loop-came : goal.invariant-loop-came
 invariant-loop-came g l =
     (l.came ≤ 4)
-    × (Consumes (g.S.Source.left l.initial.input) (g.S.Source.left l.input) (take l.came l.octets)
-    × ((g.S.Source.faults l.initial.input ≤ g.S.Source.faults l.input)
+    × (Consumes (g.S.Source.seen l.initial.input).left (g.S.Source.seen l.input).left (take l.came l.octets)
+    × (((g.S.Source.seen l.initial.input).faults ≤ (g.S.Source.seen l.input).faults)
     × (length l.octets ≡ 4)))
 
 abbrev pub decreases-loop-came : goal.decreases-loop-came

@@ -1,6 +1,6 @@
 use Rattle.std.proofs.Common.{refl, inl}
 use Rattle.std.proofs.lemmas.Result.{err_from_is_err_and}
-use Rattle.nd_base.specs.Over.{files_seen, source_seen}
+use Rattle.nd_base.specs.Over.{files_over, source_over}
 use Rattle.nd_value.specs.Fitting.{setting_of}
 use Rattle.ndr_pipe.specs.Ends.{ends_over}
 use Rattle.command_line.specs.Commands.{subject_of}
@@ -16,8 +16,8 @@ returns-in_err-ready-clause-refused g c =
 pub returns-clause-done : goal.returns-clause-done
 returns-clause-done g c =
     let (o, found) = c.in_ok-ready.ensures.ready in
-    let f = files_seen g.F.Files.held g.F.Files.absences g.F.Files.faults g.F.Files.asked c.args.files.now c.make_ready.new.files in
-    let s = source_seen g.S.Source.left g.S.Source.ended g.S.Source.faults c.args.input.now c.perform_task.new.input in
+    let f = files_over g.F.Files.seen c.args.files.now c.make_ready.new.files in
+    let s = source_over g.S.Source.seen c.args.input.now c.perform_task.new.input in
     let e = ends_over g.E.PipeEnd.seen c.args.ends.now c.perform_task.new.ends in
     let r = c.in_ok-ready.ready in
     values_made (seen_over f s e) (subject_of c.args.of) (setting_of r.interface o r.side) c.args.task
@@ -26,8 +26,8 @@ returns-clause-done g c =
 pub returns-clause-refused : goal.returns-clause-refused
 returns-clause-refused g c =
     let (o, found) = c.in_ok-ready.ensures.ready in
-    let f = files_seen g.F.Files.held g.F.Files.absences g.F.Files.faults g.F.Files.asked c.args.files.now c.make_ready.new.files in
-    let s = source_seen g.S.Source.left g.S.Source.ended g.S.Source.faults c.args.input.now c.perform_task.new.input in
+    let f = files_over g.F.Files.seen c.args.files.now c.make_ready.new.files in
+    let s = source_over g.S.Source.seen c.args.input.now c.perform_task.new.input in
     let e = ends_over g.E.PipeEnd.seen c.args.ends.now c.perform_task.new.ends in
     let r = c.in_ok-ready.ready in
     values_refused (seen_over f s e) (subject_of c.args.of) (setting_of r.interface o r.side) c.args.task

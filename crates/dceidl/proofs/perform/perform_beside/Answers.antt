@@ -1,6 +1,6 @@
 use Rattle.std.proofs.Common.{refl, inl, inr}
 use Rattle.std.proofs.lemmas.Result.{err_from_is_err_and}
-use Rattle.nd_base.specs.Over.{FilesSeen, files_seen, source_seen}
+use Rattle.nd_base.specs.Over.{FilesOver, files_over, source_over}
 use Rattle.nd_value.specs.Fitting.{setting_of}
 use Rattle.ndr_pipe.specs.Ends.{ends_over, ends_seen}
 use Rattle.dceidl.specs.Asked.{drains}
@@ -20,8 +20,8 @@ returns-in_err-ready-clause-refused g c =
 pub returns-clause-asked : goal.returns-clause-asked
 returns-clause-asked g c =
     let (o, found) = c.in_ok-ready.ensures.ready in
-    let f1 = files_seen g.F.Files.held g.F.Files.absences g.F.Files.faults g.F.Files.asked c.args.files.now c.make_ready.new.files in
-    let f2 = files_seen g.F.Files.held g.F.Files.absences g.F.Files.faults g.F.Files.asked c.make_ready.new.files c.perform_after.new.files in
+    let f1 = files_over g.F.Files.seen c.args.files.now c.make_ready.new.files in
+    let f2 = files_over g.F.Files.seen c.make_ready.new.files c.perform_after.new.files in
     let follows : Follows f1 f2 =
     record { held = c.in_ok-ready.ensures.same; asked = refl; absences = refl; faults = refl; later = c.in_ok-ready.ensures.later; absences_later = c.in_ok-ready.ensures.absences_later } in
     let r = c.in_ok-ready.ready in
@@ -34,12 +34,12 @@ returns-clause-asked g c =
 pub returns-clause-done : goal.returns-clause-done
 returns-clause-done g c =
     let (o, found) = c.in_ok-ready.ensures.ready in
-    let f1 = files_seen g.F.Files.held g.F.Files.absences g.F.Files.faults g.F.Files.asked c.args.files.now c.make_ready.new.files in
-    let f2 = files_seen g.F.Files.held g.F.Files.absences g.F.Files.faults g.F.Files.asked c.make_ready.new.files c.perform_after.new.files in
+    let f1 = files_over g.F.Files.seen c.args.files.now c.make_ready.new.files in
+    let f2 = files_over g.F.Files.seen c.make_ready.new.files c.perform_after.new.files in
     let follows : Follows f1 f2 =
     record { held = c.in_ok-ready.ensures.same; asked = refl; absences = refl; faults = refl; later = c.in_ok-ready.ensures.later; absences_later = c.in_ok-ready.ensures.absences_later } in
     let r = c.in_ok-ready.ready in
-    let s = source_seen g.S.Source.left g.S.Source.ended g.S.Source.faults c.args.input.now c.perform_after.new.input in
+    let s = source_over g.S.Source.seen c.args.input.now c.perform_after.new.input in
     let e = ends_over g.E.PipeEnd.seen c.args.ends.now c.perform_after.new.ends in
     beside_made f1 f2 follows c.args.name.now (subject_of c.args.of) c.perform_after.ensures.asked s e c.args.task (setting_of r.interface o r.side)
     (ready_is f1 (subject_of c.args.of) r.interface r.number o r.side found c.in_ok-ready.ensures.side)
@@ -48,12 +48,12 @@ returns-clause-done g c =
 pub returns-clause-refused : goal.returns-clause-refused
 returns-clause-refused g c =
     let (o, found) = c.in_ok-ready.ensures.ready in
-    let f1 = files_seen g.F.Files.held g.F.Files.absences g.F.Files.faults g.F.Files.asked c.args.files.now c.make_ready.new.files in
-    let f2 = files_seen g.F.Files.held g.F.Files.absences g.F.Files.faults g.F.Files.asked c.make_ready.new.files c.perform_after.new.files in
+    let f1 = files_over g.F.Files.seen c.args.files.now c.make_ready.new.files in
+    let f2 = files_over g.F.Files.seen c.make_ready.new.files c.perform_after.new.files in
     let follows : Follows f1 f2 =
     record { held = c.in_ok-ready.ensures.same; asked = refl; absences = refl; faults = refl; later = c.in_ok-ready.ensures.later; absences_later = c.in_ok-ready.ensures.absences_later } in
     let r = c.in_ok-ready.ready in
-    let s = source_seen g.S.Source.left g.S.Source.ended g.S.Source.faults c.args.input.now c.perform_after.new.input in
+    let s = source_over g.S.Source.seen c.args.input.now c.perform_after.new.input in
     let e = ends_over g.E.PipeEnd.seen c.args.ends.now c.perform_after.new.ends in
     beside_refused f1 f2 follows c.args.name.now (subject_of c.args.of) c.perform_after.ensures.asked s e c.args.task (setting_of r.interface o r.side)
     (ready_is f1 (subject_of c.args.of) r.interface r.number o r.side found c.in_ok-ready.ensures.side)

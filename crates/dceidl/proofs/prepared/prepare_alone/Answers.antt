@@ -1,5 +1,5 @@
 use Rattle.std.proofs.lemmas.Result.{err_from_is_err_and}
-use Rattle.nd_base.specs.Over.{files_seen}
+use Rattle.nd_base.specs.Over.{files_over}
 use Rattle.command_line.specs.Commands.{subject_of}
 use Rattle.dceidl.proofs.Causes.{ready_is}
 use Rattle.dceidl.proofs.prepared.prepare_alone.Goals as goal
@@ -18,7 +18,7 @@ returns-clause-asked g c task = c.in_ok-ready.ensures.asked
 pub returns-clause-prepared : goal.returns-clause-prepared
 returns-clause-prepared g c =
     let (o, found) = c.in_ok-ready.ensures.ready in
-    let f = files_seen g.F.Files.held g.F.Files.absences g.F.Files.faults g.F.Files.asked c.args.files.now c.make_ready.new.files in
+    let f = files_over g.F.Files.seen c.args.files.now c.make_ready.new.files in
     let r = c.in_ok-ready.ready in
     record {
       operation = o;

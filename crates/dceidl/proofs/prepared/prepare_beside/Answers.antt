@@ -1,6 +1,6 @@
 use Rattle.std.proofs.Common.{◌∙◌, refl, inl, inr}
 use Rattle.std.proofs.lemmas.Result.{err_from_is_err_and}
-use Rattle.nd_base.specs.Over.{files_seen}
+use Rattle.nd_base.specs.Over.{files_over}
 use Rattle.nd_value.specs.Fitting.{setting_of}
 use Rattle.command_line.specs.Commands.{subject_of}
 use Rattle.dceidl.proofs.Causes.{ready_is}
@@ -18,8 +18,8 @@ returns-in_err-ready-clause-refused g c =
 pub returns-in_err-request-clause-asked : goal.returns-in_err-request-clause-asked
 returns-in_err-request-clause-asked g c task =
     let (o, found) = c.in_ok-ready.ensures.ready in
-    let f1 = files_seen g.F.Files.held g.F.Files.absences g.F.Files.faults g.F.Files.asked c.args.files.now c.make_ready.new.files in
-    let f2 = files_seen g.F.Files.held g.F.Files.absences g.F.Files.faults g.F.Files.asked c.make_ready.new.files c.load_request.new.files in
+    let f1 = files_over g.F.Files.seen c.args.files.now c.make_ready.new.files in
+    let f2 = files_over g.F.Files.seen c.make_ready.new.files c.load_request.new.files in
     let follows : Follows f1 f2 =
     record { held = c.in_ok-ready.ensures.same; asked = refl; absences = refl; faults = refl; later = c.in_ok-ready.ensures.later; absences_later = c.in_ok-ready.ensures.absences_later } in
     let r = c.in_ok-ready.ready in
@@ -29,8 +29,8 @@ pub returns-in_err-request-clause-refused : goal.returns-in_err-request-clause-r
 returns-in_err-request-clause-refused g c =
     let p = err_from_is_err_and c.from_residual-in_err-request.result c.from_residual-in_err-request.ensures.1 in
     let (o, found) = c.in_ok-ready.ensures.ready in
-    let f1 = files_seen g.F.Files.held g.F.Files.absences g.F.Files.faults g.F.Files.asked c.args.files.now c.make_ready.new.files in
-    let f2 = files_seen g.F.Files.held g.F.Files.absences g.F.Files.faults g.F.Files.asked c.make_ready.new.files c.load_request.new.files in
+    let f1 = files_over g.F.Files.seen c.args.files.now c.make_ready.new.files in
+    let f2 = files_over g.F.Files.seen c.make_ready.new.files c.load_request.new.files in
     let follows : Follows f1 f2 =
     record { held = c.in_ok-ready.ensures.same; asked = refl; absences = refl; faults = refl; later = c.in_ok-ready.ensures.later; absences_later = c.in_ok-ready.ensures.absences_later } in
     let r = c.in_ok-ready.ready in
@@ -47,8 +47,8 @@ returns-in_err-request-clause-refused g c =
 pub returns-clause-asked : goal.returns-clause-asked
 returns-clause-asked g c task =
     let (o, found) = c.in_ok-ready.ensures.ready in
-    let f1 = files_seen g.F.Files.held g.F.Files.absences g.F.Files.faults g.F.Files.asked c.args.files.now c.make_ready.new.files in
-    let f2 = files_seen g.F.Files.held g.F.Files.absences g.F.Files.faults g.F.Files.asked c.make_ready.new.files c.load_request.new.files in
+    let f1 = files_over g.F.Files.seen c.args.files.now c.make_ready.new.files in
+    let f2 = files_over g.F.Files.seen c.make_ready.new.files c.load_request.new.files in
     let follows : Follows f1 f2 =
     record { held = c.in_ok-ready.ensures.same; asked = refl; absences = refl; faults = refl; later = c.in_ok-ready.ensures.later; absences_later = c.in_ok-ready.ensures.absences_later } in
     let r = c.in_ok-ready.ready in
@@ -57,8 +57,8 @@ returns-clause-asked g c task =
 pub returns-clause-prepared : goal.returns-clause-prepared
 returns-clause-prepared g c =
     let (o, found) = c.in_ok-ready.ensures.ready in
-    let f1 = files_seen g.F.Files.held g.F.Files.absences g.F.Files.faults g.F.Files.asked c.args.files.now c.make_ready.new.files in
-    let f2 = files_seen g.F.Files.held g.F.Files.absences g.F.Files.faults g.F.Files.asked c.make_ready.new.files c.load_request.new.files in
+    let f1 = files_over g.F.Files.seen c.args.files.now c.make_ready.new.files in
+    let f2 = files_over g.F.Files.seen c.make_ready.new.files c.load_request.new.files in
     let follows : Follows f1 f2 =
     record { held = c.in_ok-ready.ensures.same; asked = refl; absences = refl; faults = refl; later = c.in_ok-ready.ensures.later; absences_later = c.in_ok-ready.ensures.absences_later } in
     let r = c.in_ok-ready.ready in

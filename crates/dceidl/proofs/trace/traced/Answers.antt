@@ -1,5 +1,5 @@
 use Rattle.std.proofs.Common.{option_map, refl}
-use Rattle.nd_base.specs.Over.{files_seen, source_seen}
+use Rattle.nd_base.specs.Over.{files_over, source_over}
 use Rattle.command_line.specs.Commands.{subject_of}
 use Rattle.command_line.specs.Words.{Command, Values}
 use Rattle.command_line.specs.declared.command.Reading.TheVariants.{Trace}
@@ -10,8 +10,8 @@ use Rattle.dceidl.proofs.trace.traced.Goals as goal
 
 pub returns-in-Ok-clause-outcome : goal.returns-in-Ok-clause-outcome
 returns-in-Ok-clause-outcome g c e kept =
-    let f = files_seen g.F.Files.held g.F.Files.absences g.F.Files.faults g.F.Files.asked c.args.files.now c.prepare.new.files in
-    let s = source_seen g.S.Source.left g.S.Source.ended g.S.Source.faults c.args.input.now c.trace_prepared.new.input in
+    let f = files_over g.F.Files.seen c.args.files.now c.prepare.new.files in
+    let s = source_over g.S.Source.seen c.args.input.now c.trace_prepared.new.input in
     let of = subject_of c.args.tracing.of in
     let given = option_map (λ n. n.now) c.args.tracing.given in
     let wanted : Command = Values (Read Trace c.args.tracing.order) of given in
@@ -21,8 +21,8 @@ returns-in-Ok-clause-outcome g c e kept =
 
 pub returns-in-Err-clause-outcome : goal.returns-in-Err-clause-outcome
 returns-in-Err-clause-outcome g c e kept =
-    let f = files_seen g.F.Files.held g.F.Files.absences g.F.Files.faults g.F.Files.asked c.args.files.now c.prepare.new.files in
-    let s = source_seen g.S.Source.left g.S.Source.ended g.S.Source.faults c.args.input.now c.args.input.now in
+    let f = files_over g.F.Files.seen c.args.files.now c.prepare.new.files in
+    let s = source_over g.S.Source.seen c.args.input.now c.args.input.now in
     let of = subject_of c.args.tracing.of in
     let given = option_map (λ n. n.now) c.args.tracing.given in
     let wanted : Command = Values (Read Trace c.args.tracing.order) of given in

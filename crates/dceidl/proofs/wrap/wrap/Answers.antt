@@ -1,6 +1,6 @@
 use Rattle.std.proofs.Common.{◌≡◌, ◌∙◌, List, ℕ, ◌≤◌, length, refl, inl, inr, ap, sym, subst}
 use Rattle.std.proofs.lemmas.Result.{err_from_is_err_and}
-use Rattle.nd_base.specs.Over.{files_seen, source_seen}
+use Rattle.nd_base.specs.Over.{files_over, source_over}
 use Rattle.nd_value.specs.Fitting.{setting_of}
 use Rattle.nd_base.specs.declared.TheConstants.{STREAM_LIMIT}
 use Rattle.rpc_pdu.specs.Fragments.{Pieces}
@@ -20,7 +20,7 @@ pub returns-in_err-stub-clause-refused : goal.returns-in_err-stub-clause-refused
 returns-in_err-stub-clause-refused g c =
     let p = err_from_is_err_and c.from_residual-in_err-stub.result c.from_residual-in_err-stub.ensures.1 in
     let (o, found) = c.in_ok-ready.ensures.ready in
-    let f = files_seen g.F.Files.held g.F.Files.absences g.F.Files.faults g.F.Files.asked c.args.files.now c.make_ready.new.files in
+    let f = files_over g.F.Files.seen c.args.files.now c.make_ready.new.files in
     let r = c.in_ok-ready.ready in
     rw (p.1, p.2) (inr (
       setting_of r.interface o r.side,
@@ -32,15 +32,15 @@ pub returns-in_err-octets-clause-refused : goal.returns-in_err-octets-clause-ref
 returns-in_err-octets-clause-refused g c =
     let p = err_from_is_err_and c.from_residual-in_err-octets.result c.from_residual-in_err-octets.ensures.1 in
     let (o, found) = c.in_ok-ready.ensures.ready in
-    let f = files_seen g.F.Files.held g.F.Files.absences g.F.Files.faults g.F.Files.asked c.args.files.now c.make_ready.new.files in
+    let f = files_over g.F.Files.seen c.args.files.now c.make_ready.new.files in
     let r = c.in_ok-ready.ready in
     rw (p.1, p.2) (inr (setting_of r.interface o r.side, ready_is f (subject_of c.args.of) r.interface r.number o r.side found c.in_ok-ready.ensures.side, tt))
 
 pub returns-clause-done : goal.returns-clause-done
 returns-clause-done g c =
     let (o, found) = c.in_ok-ready.ensures.ready in
-    let f = files_seen g.F.Files.held g.F.Files.absences g.F.Files.faults g.F.Files.asked c.args.files.now c.make_ready.new.files in
-    let s = source_seen g.S.Source.left g.S.Source.ended g.S.Source.faults c.args.input.now c.encode_input.new.input in
+    let f = files_over g.F.Files.seen c.args.files.now c.make_ready.new.files in
+    let s = source_over g.S.Source.seen c.args.input.now c.encode_input.new.input in
     let r = c.in_ok-ready.ready in
     wrapped_is f s (subject_of c.args.of) c.args.order c.args.call c.args.max r.interface r.number o r.side c.in_ok-stub.stub c.in_ok-octets.octets
     c.in_ok-ready.ensures.side found (c.in_ok-stub.ensures.done o found.named.is_there)
@@ -54,7 +54,7 @@ fragments-requires-clause-few g c =
 pub fragments-requires-clause-room : goal.fragments-requires-clause-room
 fragments-requires-clause-room g c =
     let (o, found) = c.in_ok-ready.ensures.ready in
-    let s = source_seen g.S.Source.left g.S.Source.ended g.S.Source.faults c.args.input.now c.encode_input.new.input in
+    let s = source_over g.S.Source.seen c.args.input.now c.encode_input.new.input in
     let r = c.in_ok-ready.ready in
     subst (λ (l : List ℕ). length l ≤ STREAM_LIMIT) (sym c.as_slice.ensures)
     (short_stub s (setting_of r.interface o r.side) c.args.order WRAP_CHUNK c.in_ok-stub.stub (c.in_ok-stub.ensures.done o found.named.is_there))

@@ -21,7 +21,7 @@ use Rattle.idl_names.proofs.resolving.+files.Goals as goal
 pub import-returns-in_err-name : goal.import-returns-in_err-name
 import-returns-in_err-name g t c =
     let p : Point =
-    point (g.F.Files.held c.args.files.now) (g.F.Files.asked c.args.files.now) (g.F.Files.absences c.args.files.now) (g.F.Files.faults c.args.files.now)
+    point (g.F.Files.seen c.args.files.now)
     (seen_state c.args.sources.now c.args.state.now) in
     let dues = load_of c.args.file c.args.string.now ∷ [] in
     passed_on p p dues [] c.from_residual.result fault.Memory c.from_residual.ensures.1 (going.stops_short p dues fault.Memory refl c.requires)
@@ -29,7 +29,7 @@ import-returns-in_err-name g t c =
 pub import-returns-in-Some : goal.import-returns-in-Some
 import-returns-in-Some g t c =
     let p : Point =
-    point (g.F.Files.held c.args.files.now) (g.F.Files.asked c.args.files.now) (g.F.Files.absences c.args.files.now) (g.F.Files.faults c.args.files.now)
+    point (g.F.Files.seen c.args.files.now)
     (seen_state c.args.sources.now c.args.state.now) in
     let name = file_named c.args.string.now.octets in
     let is : c.as_str.result.now ≡ name = c.as_str.ensures.value ∙ (c.in_ok-name.ensures ∙ ap file_named c.as_slice.ensures) in
@@ -39,7 +39,7 @@ import-returns-in-Some g t c =
 pub import-returns-in-Some-2 : goal.import-returns-in-Some-2
 import-returns-in-Some-2 g t c =
     let p : Point =
-    point (g.F.Files.held c.args.files.now) (g.F.Files.asked c.args.files.now) (g.F.Files.absences c.args.files.now) (g.F.Files.faults c.args.files.now)
+    point (g.F.Files.seen c.args.files.now)
     (seen_state c.args.sources.now c.args.state.now) in
     let name = file_named c.args.string.now.octets in
     let is : c.as_str.result.now ≡ name = c.as_str.ensures.value ∙ (c.in_ok-name.ensures ∙ ap file_named c.as_slice.ensures) in
@@ -49,7 +49,7 @@ import-returns-in-Some-2 g t c =
 pub import-returns-in-None : goal.import-returns-in-None
 import-returns-in-None g t c =
     let p : Point =
-    point (g.F.Files.held c.args.files.now) (g.F.Files.asked c.args.files.now) (g.F.Files.absences c.args.files.now) (g.F.Files.faults c.args.files.now)
+    point (g.F.Files.seen c.args.files.now)
     (seen_state c.args.sources.now c.args.state.now) in
     let name = file_named c.args.string.now.octets in
     let is : c.as_str.result.now ≡ name = c.as_str.ensures.value ∙ (c.in_ok-name.ensures ∙ ap file_named c.as_slice.ensures) in
@@ -59,13 +59,13 @@ import-returns-in-None g t c =
 pub import-returns : goal.import-returns
 import-returns g t c =
     let p : Point =
-    point (g.F.Files.held c.args.files.now) (g.F.Files.asked c.args.files.now) (g.F.Files.absences c.args.files.now) (g.F.Files.faults c.args.files.now)
+    point (g.F.Files.seen c.args.files.now)
     (seen_state c.args.sources.now c.args.state.now) in
     let q : Point =
-    point (g.F.Files.held c.load.new.files) (g.F.Files.asked c.load.new.files) (g.F.Files.absences c.load.new.files) (g.F.Files.faults c.load.new.files)
+    point (g.F.Files.seen c.load.new.files)
     (seen_state c.load.new.sources c.args.state.now) in
     let r : Point =
-    point (g.F.Files.held c.whole.new.files) (g.F.Files.asked c.whole.new.files) (g.F.Files.absences c.whole.new.files) (g.F.Files.faults c.whole.new.files)
+    point (g.F.Files.seen c.whole.new.files)
     (seen_state c.whole.new.sources c.whole.new.state) in
     let name = file_named c.args.string.now.octets in
     let is : c.as_str.result.now ≡ name = c.as_str.ensures.value ∙ (c.in_ok-name.ensures ∙ ap file_named c.as_slice.ensures) in
@@ -82,13 +82,13 @@ import-returns g t c =
 pub import_all-returns-in_err-import : goal.import_all-returns-in_err-import
 import_all-returns-in_err-import g t c =
     let p : Point =
-    point (g.F.Files.held c.args.files.now) (g.F.Files.asked c.args.files.now) (g.F.Files.absences c.args.files.now) (g.F.Files.faults c.args.files.now)
+    point (g.F.Files.seen c.args.files.now)
     (seen_state c.args.sources.now c.args.state.now) in
     let q : Point =
-    point (g.F.Files.held c.loop-string.files) (g.F.Files.asked c.loop-string.files) (g.F.Files.absences c.loop-string.files) (g.F.Files.faults c.loop-string.files)
+    point (g.F.Files.seen c.loop-string.files)
     (seen_state c.loop-string.sources c.loop-string.state) in
     let r : Point =
-    point (g.F.Files.held c.import.new.files) (g.F.Files.asked c.import.new.files) (g.F.Files.absences c.import.new.files) (g.F.Files.faults c.import.new.files)
+    point (g.F.Files.seen c.import.new.files)
     (seen_state c.import.new.sources c.import.new.state) in
     passed_on p r (loads c.args.file c.args.strings.now)
     (loads c.args.file (drop (c.loop-string.string-index + 1) c.args.strings.now)) c.from_residual.result c.in_err-import.field-0.0 c.from_residual.ensures.1
@@ -99,10 +99,10 @@ import_all-returns-in_err-import g t c =
 pub import_all-returns : goal.import_all-returns
 import_all-returns g t c =
     let p : Point =
-    point (g.F.Files.held c.args.files.now) (g.F.Files.asked c.args.files.now) (g.F.Files.absences c.args.files.now) (g.F.Files.faults c.args.files.now)
+    point (g.F.Files.seen c.args.files.now)
     (seen_state c.args.sources.now c.args.state.now) in
     let q : Point =
-    point (g.F.Files.held c.loop-string.files) (g.F.Files.asked c.loop-string.files) (g.F.Files.absences c.loop-string.files) (g.F.Files.faults c.loop-string.files)
+    point (g.F.Files.seen c.loop-string.files)
     (seen_state c.loop-string.sources c.loop-string.state) in
     going.any_value p q (loads c.args.file c.args.strings.now) [] 0 tt
     (going.no_item (loads c.args.file) (λ x. load_of c.args.file x ∷ []) refl (one_load c.args.file) c.args.strings.now p q (loads c.args.file c.args.strings.now) c.loop-string.string-index 0
@@ -113,13 +113,13 @@ import_all-returns g t c =
 pub imports-returns-in_err-import_all : goal.imports-returns-in_err-import_all
 imports-returns-in_err-import_all g t c =
     let p : Point =
-    point (g.F.Files.held c.args.files.now) (g.F.Files.asked c.args.files.now) (g.F.Files.absences c.args.files.now) (g.F.Files.faults c.args.files.now)
+    point (g.F.Files.seen c.args.files.now)
     (seen_state c.args.sources.now c.args.state.now) in
     let q : Point =
-    point (g.F.Files.held c.loop-one.files) (g.F.Files.asked c.loop-one.files) (g.F.Files.absences c.loop-one.files) (g.F.Files.faults c.loop-one.files)
+    point (g.F.Files.seen c.loop-one.files)
     (seen_state c.loop-one.sources c.loop-one.state) in
     let r : Point =
-    point (g.F.Files.held c.import_all.new.files) (g.F.Files.asked c.import_all.new.files) (g.F.Files.absences c.import_all.new.files) (g.F.Files.faults c.import_all.new.files)
+    point (g.F.Files.seen c.import_all.new.files)
     (seen_state c.import_all.new.sources c.import_all.new.state) in
     passed_on p r (loads_of c.args.file c.args.list.now)
     (loads_of c.args.file (drop (c.loop-one.one-index + 1) c.args.list.now)) c.from_residual.result c.in_err-import_all.field-0.0 c.from_residual.ensures.1
@@ -131,10 +131,10 @@ imports-returns-in_err-import_all g t c =
 pub imports-returns : goal.imports-returns
 imports-returns g t c =
     let p : Point =
-    point (g.F.Files.held c.args.files.now) (g.F.Files.asked c.args.files.now) (g.F.Files.absences c.args.files.now) (g.F.Files.faults c.args.files.now)
+    point (g.F.Files.seen c.args.files.now)
     (seen_state c.args.sources.now c.args.state.now) in
     let q : Point =
-    point (g.F.Files.held c.loop-one.files) (g.F.Files.asked c.loop-one.files) (g.F.Files.absences c.loop-one.files) (g.F.Files.faults c.loop-one.files)
+    point (g.F.Files.seen c.loop-one.files)
     (seen_state c.loop-one.sources c.loop-one.state) in
     going.any_value p q (loads_of c.args.file c.args.list.now) [] 0 tt
     (going.no_item (loads_of c.args.file) (λ m. loads c.args.file m.files.items) refl (one_import c.args.file) c.args.list.now p q (loads_of c.args.file c.args.list.now) c.loop-one.one-index 0
@@ -145,7 +145,7 @@ imports-returns g t c =
 pub whole-returns-in_err-attributes-clause-went : goal.whole-returns-in_err-attributes-clause-went
 whole-returns-in_err-attributes-clause-went g t c =
     let p : Point =
-    point (g.F.Files.held c.args.files.now) (g.F.Files.asked c.args.files.now) (g.F.Files.absences c.args.files.now) (g.F.Files.faults c.args.files.now)
+    point (g.F.Files.seen c.args.files.now)
     (seen_state c.args.sources.now c.args.state.now) in
     let file = c.args.of.file in
     let t = seen_tree c.args.of.tree in
@@ -155,10 +155,10 @@ whole-returns-in_err-attributes-clause-went g t c =
 pub whole-returns-in_err-imports-clause-went : goal.whole-returns-in_err-imports-clause-went
 whole-returns-in_err-imports-clause-went g t c =
     let p : Point =
-    point (g.F.Files.held c.args.files.now) (g.F.Files.asked c.args.files.now) (g.F.Files.absences c.args.files.now) (g.F.Files.faults c.args.files.now)
+    point (g.F.Files.seen c.args.files.now)
     (seen_state c.args.sources.now c.args.state.now) in
     let q : Point =
-    point (g.F.Files.held c.imports.new.files) (g.F.Files.asked c.imports.new.files) (g.F.Files.absences c.imports.new.files) (g.F.Files.faults c.imports.new.files)
+    point (g.F.Files.seen c.imports.new.files)
     (seen_state c.imports.new.sources c.imports.new.state) in
     let file = c.args.of.file in
     let t = seen_tree c.args.of.tree in
@@ -171,10 +171,10 @@ whole-returns-in_err-imports-clause-went g t c =
 pub whole-returns-in_err-exports-clause-went : goal.whole-returns-in_err-exports-clause-went
 whole-returns-in_err-exports-clause-went g t c =
     let p : Point =
-    point (g.F.Files.held c.args.files.now) (g.F.Files.asked c.args.files.now) (g.F.Files.absences c.args.files.now) (g.F.Files.faults c.args.files.now)
+    point (g.F.Files.seen c.args.files.now)
     (seen_state c.args.sources.now c.args.state.now) in
     let q : Point =
-    point (g.F.Files.held c.imports.new.files) (g.F.Files.asked c.imports.new.files) (g.F.Files.absences c.imports.new.files) (g.F.Files.faults c.imports.new.files)
+    point (g.F.Files.seen c.imports.new.files)
     (seen_state c.imports.new.sources c.imports.new.state) in
     let file = c.args.of.file in
     let t = seen_tree c.args.of.tree in
@@ -189,10 +189,10 @@ whole-returns-in_err-exports-clause-went g t c =
 pub whole-returns-in_err-push-clause-went : goal.whole-returns-in_err-push-clause-went
 whole-returns-in_err-push-clause-went g t c =
     let p : Point =
-    point (g.F.Files.held c.args.files.now) (g.F.Files.asked c.args.files.now) (g.F.Files.absences c.args.files.now) (g.F.Files.faults c.args.files.now)
+    point (g.F.Files.seen c.args.files.now)
     (seen_state c.args.sources.now c.args.state.now) in
     let q : Point =
-    point (g.F.Files.held c.imports.new.files) (g.F.Files.asked c.imports.new.files) (g.F.Files.absences c.imports.new.files) (g.F.Files.faults c.imports.new.files)
+    point (g.F.Files.seen c.imports.new.files)
     (seen_state c.imports.new.sources c.imports.new.state) in
     let file = c.args.of.file in
     let t = seen_tree c.args.of.tree in
@@ -208,10 +208,10 @@ whole-returns-in_err-push-clause-went g t c =
 pub whole-returns-clause-went : goal.whole-returns-clause-went
 whole-returns-clause-went g t c =
     let p : Point =
-    point (g.F.Files.held c.args.files.now) (g.F.Files.asked c.args.files.now) (g.F.Files.absences c.args.files.now) (g.F.Files.faults c.args.files.now)
+    point (g.F.Files.seen c.args.files.now)
     (seen_state c.args.sources.now c.args.state.now) in
     let q : Point =
-    point (g.F.Files.held c.imports.new.files) (g.F.Files.asked c.imports.new.files) (g.F.Files.absences c.imports.new.files) (g.F.Files.faults c.imports.new.files)
+    point (g.F.Files.seen c.imports.new.files)
     (seen_state c.imports.new.sources c.imports.new.state) in
     let file = c.args.of.file in
     let t = seen_tree c.args.of.tree in

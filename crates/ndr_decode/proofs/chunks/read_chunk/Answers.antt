@@ -1,5 +1,5 @@
 use Rattle.std.proofs.Common.{◌≡◌, ◌<◌, ◌-◌, refl, sym, subst, arith, min}
-use Rattle.nd_base.specs.Over.{source_seen}
+use Rattle.nd_base.specs.Over.{source_over}
 use Rattle.ndr_decoder_state.specs.Notes.{notes_seen}
 use Rattle.ndr_decoder_state.specs.Seen.{state_of}
 use Rattle.nd_grammar.specs.decoded.Verdict.{decoding_seen}
@@ -10,7 +10,7 @@ use Rattle.ndr_decode.proofs.chunks.read_chunk.Goals as goal
 
 pub returns-in_err-count-clause-reads : goal.returns-in_err-count-clause-reads
 returns-in_err-count-clause-reads g c w legal fetched noted direct first r rs roots elem done k of_plan as_many p =
-    let a = source_seen g.S.Source.left g.S.Source.ended g.S.Source.faults c.args.source.now c.chunk_count.new.source in
+    let a = source_over g.S.Source.seen c.args.source.now c.chunk_count.new.source in
     let s = decoding_seen c.args.items.now c.chunk_count.new.items (g.L.Ledger.number c.args.steps.now) (g.L.Ledger.number c.chunk_count.new.steps) in
     chunk_faulty c.args.plan.now w legal c.args.order fetched noted direct first c.args.number r rs roots elem c.args.elem of_plan done k c.args.so_far as_many c.args.machine.now p a s
     c.chunk_count.new.machine c.in_err-count.field-0.0
@@ -20,7 +20,7 @@ returns-in_err-count-clause-reads g c w legal fetched noted direct first r rs ro
 
 pub returns-then-count-eq0-clause-reads : goal.returns-then-count-eq0-clause-reads
 returns-then-count-eq0-clause-reads g c w legal fetched noted direct first r rs roots elem done k of_plan as_many p =
-    let a = source_seen g.S.Source.left g.S.Source.ended g.S.Source.faults c.args.source.now c.chunk_count.new.source in
+    let a = source_over g.S.Source.seen c.args.source.now c.chunk_count.new.source in
     let s = decoding_seen c.args.items.now c.chunk_count.new.items (g.L.Ledger.number c.args.steps.now) (g.L.Ledger.number c.chunk_count.new.steps) in
     let x = c.in_ok-count.ensures.reads w fetched noted direct first c.args.number rs roots elem done c.args.machine.now.max_at k p.few p.in_pipe p.is_at in
     chunk_none c.args.plan.now w legal c.args.order fetched noted direct first c.args.number r rs roots elem c.args.elem of_plan done k c.args.so_far as_many c.args.machine.now p
@@ -28,7 +28,7 @@ returns-then-count-eq0-clause-reads g c w legal fetched noted direct first r rs 
 
 pub returns-in_err-begin_elements-clause-reads : goal.returns-in_err-begin_elements-clause-reads
 returns-in_err-begin_elements-clause-reads g c w legal fetched noted direct first r rs roots elem done k of_plan as_many p =
-    let a = source_seen g.S.Source.left g.S.Source.ended g.S.Source.faults c.args.source.now c.chunk_count.new.source in
+    let a = source_over g.S.Source.seen c.args.source.now c.chunk_count.new.source in
     let s = decoding_seen c.args.items.now c.chunk_count.new.items (g.L.Ledger.number c.args.steps.now) (g.L.Ledger.number c.chunk_count.new.steps) in
     let x = c.in_ok-count.ensures.reads w fetched noted direct first c.args.number rs roots elem done c.args.machine.now.max_at k p.few p.in_pipe p.is_at in
     let some : 0 < c.in_ok-count.count = omega (arith, c.if-count-eq0.false) in
@@ -59,7 +59,7 @@ read_home-requires g c = record {
       let k = q.k in
       let as_many = q.as_many in
       let p = q.in_pipe in
-      let a = source_seen g.S.Source.left g.S.Source.ended g.S.Source.faults c.args.source.now c.chunk_count.new.source in
+      let a = source_over g.S.Source.seen c.args.source.now c.chunk_count.new.source in
       let s = decoding_seen c.args.items.now c.chunk_count.new.items (g.L.Ledger.number c.args.steps.now) (g.L.Ledger.number c.chunk_count.new.steps) in
       let x = c.in_ok-count.ensures.reads w fetched noted direct first c.args.number rs roots elem done c.args.machine.now.max_at k p.few p.in_pipe p.is_at in
       let some : 0 < c.in_ok-count.count = omega (arith, c.if-count-eq0.false) in
@@ -71,13 +71,13 @@ read_home-requires g c = record {
 
 pub returns-in_err-read_home-clause-reads : goal.returns-in_err-read_home-clause-reads
 returns-in_err-read_home-clause-reads g c w legal fetched noted direct first r rs roots elem done k of_plan as_many p =
-    let a = source_seen g.S.Source.left g.S.Source.ended g.S.Source.faults c.args.source.now c.chunk_count.new.source in
+    let a = source_over g.S.Source.seen c.args.source.now c.chunk_count.new.source in
     let s = decoding_seen c.args.items.now c.chunk_count.new.items (g.L.Ledger.number c.args.steps.now) (g.L.Ledger.number c.chunk_count.new.steps) in
-    let b = source_seen g.S.Source.left g.S.Source.ended g.S.Source.faults c.chunk_count.new.source c.read_home.new.source in
+    let b = source_over g.S.Source.seen c.chunk_count.new.source c.read_home.new.source in
     let notes =
     notes_seen c.chunk_count.new.items c.read_home.new.items (g.L.Ledger.number c.chunk_count.new.steps)
     (g.L.Ledger.number c.read_home.new.steps) c.begin_elements.new.machine.cells c.read_home.new.machine.cells in
-    let e = source_seen g.S.Source.left g.S.Source.ended g.S.Source.faults c.args.source.now c.read_home.new.source in
+    let e = source_over g.S.Source.seen c.args.source.now c.read_home.new.source in
     let u = decoding_seen c.args.items.now c.read_home.new.items (g.L.Ledger.number c.args.steps.now) (g.L.Ledger.number c.read_home.new.steps) in
     let x = c.in_ok-count.ensures.reads w fetched noted direct first c.args.number rs roots elem done c.args.machine.now.max_at k p.few p.in_pipe p.is_at in
     let some : 0 < c.in_ok-count.count = omega (arith, c.if-count-eq0.false) in
@@ -103,13 +103,13 @@ returns-in_err-read_home-clause-reads g c w legal fetched noted direct first r r
 
 pub returns-clause-reads : goal.returns-clause-reads
 returns-clause-reads g c w legal fetched noted direct first r rs roots elem done k of_plan as_many p =
-    let a = source_seen g.S.Source.left g.S.Source.ended g.S.Source.faults c.args.source.now c.chunk_count.new.source in
+    let a = source_over g.S.Source.seen c.args.source.now c.chunk_count.new.source in
     let s = decoding_seen c.args.items.now c.chunk_count.new.items (g.L.Ledger.number c.args.steps.now) (g.L.Ledger.number c.chunk_count.new.steps) in
-    let b = source_seen g.S.Source.left g.S.Source.ended g.S.Source.faults c.chunk_count.new.source c.read_home.new.source in
+    let b = source_over g.S.Source.seen c.chunk_count.new.source c.read_home.new.source in
     let notes =
     notes_seen c.chunk_count.new.items c.read_home.new.items (g.L.Ledger.number c.chunk_count.new.steps)
     (g.L.Ledger.number c.read_home.new.steps) c.begin_elements.new.machine.cells c.read_home.new.machine.cells in
-    let e = source_seen g.S.Source.left g.S.Source.ended g.S.Source.faults c.args.source.now c.read_home.new.source in
+    let e = source_over g.S.Source.seen c.args.source.now c.read_home.new.source in
     let u = decoding_seen c.args.items.now c.read_home.new.items (g.L.Ledger.number c.args.steps.now) (g.L.Ledger.number c.read_home.new.steps) in
     let x = c.in_ok-count.ensures.reads w fetched noted direct first c.args.number rs roots elem done c.args.machine.now.max_at k p.few p.in_pipe p.is_at in
     let some : 0 < c.in_ok-count.count = omega (arith, c.if-count-eq0.false) in
@@ -148,13 +148,13 @@ returns-clause-room g c =
     let k = q.k in
     let as_many = q.as_many in
     let p = q.in_pipe in
-    let a = source_seen g.S.Source.left g.S.Source.ended g.S.Source.faults c.args.source.now c.chunk_count.new.source in
+    let a = source_over g.S.Source.seen c.args.source.now c.chunk_count.new.source in
     let s = decoding_seen c.args.items.now c.chunk_count.new.items (g.L.Ledger.number c.args.steps.now) (g.L.Ledger.number c.chunk_count.new.steps) in
-    let b = source_seen g.S.Source.left g.S.Source.ended g.S.Source.faults c.chunk_count.new.source c.read_home.new.source in
+    let b = source_over g.S.Source.seen c.chunk_count.new.source c.read_home.new.source in
     let notes =
     notes_seen c.chunk_count.new.items c.read_home.new.items (g.L.Ledger.number c.chunk_count.new.steps)
     (g.L.Ledger.number c.read_home.new.steps) c.begin_elements.new.machine.cells c.read_home.new.machine.cells in
-    let e = source_seen g.S.Source.left g.S.Source.ended g.S.Source.faults c.args.source.now c.read_home.new.source in
+    let e = source_over g.S.Source.seen c.args.source.now c.read_home.new.source in
     let u = decoding_seen c.args.items.now c.read_home.new.items (g.L.Ledger.number c.args.steps.now) (g.L.Ledger.number c.read_home.new.steps) in
     let x = c.in_ok-count.ensures.reads w fetched noted direct first c.args.number rs roots elem done c.args.machine.now.max_at k p.few p.in_pipe p.is_at in
     let some : 0 < c.in_ok-count.count = omega (arith, c.if-count-eq0.false) in

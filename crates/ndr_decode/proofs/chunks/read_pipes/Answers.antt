@@ -1,5 +1,5 @@
 use Rattle.std.proofs.Common.{◌≡◌, ◌≤◌, ◌+◌, ◌++◌, refl, ap, ◌∙◌, arith, le_refl, le_trans, length}
-use Rattle.nd_base.specs.Over.{count, source_seen}
+use Rattle.nd_base.specs.Over.{source_over}
 use Rattle.nd_grammar.specs.decoded.Verdict.{decoding_seen}
 use Rattle.ndr_decode.proofs.PipesRead.{ends_faulty, few_numbers, first_number, line_calls, lines_done, next_before, next_fault, next_is, next_read, none_read, number_few, pipe_due, side_done}
 use Rattle.ndr_decode.proofs.PipesRead.{stream_ends}
@@ -19,8 +19,8 @@ loop-next-init g c = (
       let is : length c.as_slice.result.now ≡ length c.args.stream.now.roots.items = ap length c.as_slice.ensures in (
         0,
         (
-          none_read c.args.plan.now c.args.op c.args.side c.args.order w legal setting fetched noted direct c.args.stream.now s seen st hold (g.S.Source.left c.args.source.now)
-              (g.S.Source.ended c.args.source.now) (count g.S.Source.faults c.args.source.now c.args.source.now) c.args.items.now (g.L.Ledger.number c.args.steps.now),
+          none_read c.args.plan.now c.args.op c.args.side c.args.order w legal setting fetched noted direct c.args.stream.now s seen st hold (g.S.Source.seen c.args.source.now).left
+              (g.S.Source.seen c.args.source.now).ended (source_over g.S.Source.seen c.args.source.now c.args.source.now).faults c.args.items.now (g.L.Ledger.number c.args.steps.now),
           (omega arith, is ∙ first_number c.args.plan.now c.args.op c.args.side c.args.order w legal setting fetched noted direct c.args.stream.now s seen st hold),
         ),
       ),
@@ -40,7 +40,7 @@ elements_run-requires-clause-pipe g c name at l =
     let setting = q.setting in
     let st = q.stands in
     let hold = q.hold in
-    let a = source_seen g.S.Source.left g.S.Source.ended g.S.Source.faults c.args.source.now c.loop-next.source in
+    let a = source_over g.S.Source.seen c.args.source.now c.loop-next.source in
     let d = decoding_seen c.args.items.now c.loop-next.items (g.L.Ledger.number c.args.steps.now) (g.L.Ledger.number c.loop-next.steps) in
     let (passed, (p, (there, number_is))) = c.loop-next.invariant.0 w legal fetched noted direct s seen setting st hold in
     let at_line = there ∙ ap (λ j. j + passed) (c.requires.line w.op setting.there) in
@@ -49,7 +49,7 @@ elements_run-requires-clause-pipe g c name at l =
 
 pub returns-in_default-clause-reads : goal.returns-in_default-clause-reads
 returns-in_default-clause-reads g c w legal fetched noted direct s seen setting st hold =
-    let a = source_seen g.S.Source.left g.S.Source.ended g.S.Source.faults c.args.source.now c.loop-next.source in
+    let a = source_over g.S.Source.seen c.args.source.now c.loop-next.source in
     let d = decoding_seen c.args.items.now c.loop-next.items (g.L.Ledger.number c.args.steps.now) (g.L.Ledger.number c.loop-next.steps) in
     let (passed, (p, (there, number_is))) = c.loop-next.invariant.0 w legal fetched noted direct s seen setting st hold in
     let at_line = there ∙ ap (λ j. j + passed) (c.requires.line w.op setting.there) in
@@ -70,7 +70,7 @@ read_pipe-requires g c =
     let setting = q.setting in
     let st = q.stands in
     let hold = q.hold in
-    let a = source_seen g.S.Source.left g.S.Source.ended g.S.Source.faults c.args.source.now c.loop-next.source in
+    let a = source_over g.S.Source.seen c.args.source.now c.loop-next.source in
     let d = decoding_seen c.args.items.now c.loop-next.items (g.L.Ledger.number c.args.steps.now) (g.L.Ledger.number c.loop-next.steps) in
     let (passed, (p, (there, number_is))) = c.loop-next.invariant.0 w legal fetched noted direct s seen setting st hold in
     let at_line = there ∙ ap (λ j. j + passed) (c.requires.line w.op setting.there) in
@@ -84,11 +84,11 @@ read_pipe-requires g c =
 
 pub returns-in_err-read_pipe-clause-reads : goal.returns-in_err-read_pipe-clause-reads
 returns-in_err-read_pipe-clause-reads g c w legal fetched noted direct s seen setting st hold =
-    let a = source_seen g.S.Source.left g.S.Source.ended g.S.Source.faults c.args.source.now c.loop-next.source in
+    let a = source_over g.S.Source.seen c.args.source.now c.loop-next.source in
     let d = decoding_seen c.args.items.now c.loop-next.items (g.L.Ledger.number c.args.steps.now) (g.L.Ledger.number c.loop-next.steps) in
-    let b = source_seen g.S.Source.left g.S.Source.ended g.S.Source.faults c.loop-next.source c.read_pipe.new.source in
+    let b = source_over g.S.Source.seen c.loop-next.source c.read_pipe.new.source in
     let t = decoding_seen c.loop-next.items c.read_pipe.new.items (g.L.Ledger.number c.loop-next.steps) (g.L.Ledger.number c.read_pipe.new.steps) in
-    let e = source_seen g.S.Source.left g.S.Source.ended g.S.Source.faults c.args.source.now c.read_pipe.new.source in
+    let e = source_over g.S.Source.seen c.args.source.now c.read_pipe.new.source in
     let u = decoding_seen c.args.items.now c.read_pipe.new.items (g.L.Ledger.number c.args.steps.now) (g.L.Ledger.number c.read_pipe.new.steps) in
     let (passed, (p, (there, number_is))) = c.loop-next.invariant.0 w legal fetched noted direct s seen setting st hold in
     let at_line = there ∙ ap (λ j. j + passed) (c.requires.line w.op setting.there) in
@@ -130,7 +130,7 @@ overflow_add-number g c =
     let setting = q.setting in
     let st = q.stands in
     let hold = q.hold in
-    let a = source_seen g.S.Source.left g.S.Source.ended g.S.Source.faults c.args.source.now c.loop-next.source in
+    let a = source_over g.S.Source.seen c.args.source.now c.loop-next.source in
     let d = decoding_seen c.args.items.now c.loop-next.items (g.L.Ledger.number c.args.steps.now) (g.L.Ledger.number c.loop-next.steps) in
     let (passed, (p, (there, number_is))) = c.loop-next.invariant.0 w legal fetched noted direct s seen setting st hold in
     let at_line = there ∙ ap (λ j. j + passed) (c.requires.line w.op setting.there) in
@@ -144,11 +144,11 @@ overflow_add-number g c =
 pub loop-next-preserved : goal.loop-next-preserved
 loop-next-preserved g c = (
   λ w legal fetched noted direct s seen setting st hold.
-      let a = source_seen g.S.Source.left g.S.Source.ended g.S.Source.faults c.args.source.now c.loop-next.source in
+      let a = source_over g.S.Source.seen c.args.source.now c.loop-next.source in
       let d = decoding_seen c.args.items.now c.loop-next.items (g.L.Ledger.number c.args.steps.now) (g.L.Ledger.number c.loop-next.steps) in
-      let b = source_seen g.S.Source.left g.S.Source.ended g.S.Source.faults c.loop-next.source c.read_pipe.new.source in
+      let b = source_over g.S.Source.seen c.loop-next.source c.read_pipe.new.source in
       let t = decoding_seen c.loop-next.items c.read_pipe.new.items (g.L.Ledger.number c.loop-next.steps) (g.L.Ledger.number c.read_pipe.new.steps) in
-      let e = source_seen g.S.Source.left g.S.Source.ended g.S.Source.faults c.args.source.now c.read_pipe.new.source in
+      let e = source_over g.S.Source.seen c.args.source.now c.read_pipe.new.source in
       let u = decoding_seen c.args.items.now c.read_pipe.new.items (g.L.Ledger.number c.args.steps.now) (g.L.Ledger.number c.read_pipe.new.steps) in
       let (passed, (p, (there, number_is))) = c.loop-next.invariant.0 w legal fetched noted direct s seen setting st hold in
       let at_line = there ∙ ap (λ j. j + passed) (c.requires.line w.op setting.there) in
@@ -167,7 +167,7 @@ loop-next-preserved g c = (
 
 pub returns-clause-reads : goal.returns-clause-reads
 returns-clause-reads g c w legal fetched noted direct s seen setting st hold =
-    let a = source_seen g.S.Source.left g.S.Source.ended g.S.Source.faults c.args.source.now c.loop-next.source in
+    let a = source_over g.S.Source.seen c.args.source.now c.loop-next.source in
     let d = decoding_seen c.args.items.now c.loop-next.items (g.L.Ledger.number c.args.steps.now) (g.L.Ledger.number c.loop-next.steps) in
     let (passed, (p, (there, number_is))) = c.loop-next.invariant.0 w legal fetched noted direct s seen setting st hold in
     let at_line = there ∙ ap (λ j. j + passed) (c.requires.line w.op setting.there) in

@@ -1,6 +1,6 @@
 use Rattle.std.proofs.Common.{◌≡◌, Some, refl, option_map}
 use Rattle.std.specs.List.{slice_get}
-use Rattle.nd_base.specs.Over.{count, source_seen}
+use Rattle.nd_base.specs.Over.{source_over}
 use Rattle.nd_types.specs.declared.types.Operation.{Operation}
 use Rattle.nd_lemmas.proofs.Lists.{item_at}
 use Rattle.nd_value.specs.Fitting.{setting_beside}
@@ -20,10 +20,10 @@ returns-in_err-intake-clause-fault g c =
     let k = c.args.order in
     let x = c.begin-stream.result in
     call.handed_on (λ e. (o : Operation) → slice_get p.tie.operations n ≡ Some o → IsFault (setting_beside p.tie o s q) k
-    (source_seen g.S.Source.left g.S.Source.ended g.S.Source.faults c.args.source.now c.args.source.now) e
+    (source_over g.S.Source.seen c.args.source.now c.args.source.now) e
     (decoding_seen c.args.items.now c.args.items.now (g.L.Ledger.number c.args.steps.now) (g.L.Ledger.number c.args.steps.now))) c.from_residual.result fault.Memory c.from_residual.ensures.1
-    (λ o there. call.nothing_read p n s q o there k x c.begin-stream.ensures.begins (g.S.Source.left c.args.source.now) (g.S.Source.ended c.args.source.now)
-    (count g.S.Source.faults c.args.source.now c.args.source.now) c.args.items.now (g.L.Ledger.number c.args.steps.now))
+    (λ o there. call.nothing_read p n s q o there k x c.begin-stream.ensures.begins (g.S.Source.seen c.args.source.now).left (g.S.Source.seen c.args.source.now).ended
+    (source_over g.S.Source.seen c.args.source.now c.args.source.now).faults c.args.items.now (g.L.Ledger.number c.args.steps.now))
 
 pub returns-in_err-intake-clause-in_order : goal.returns-in_err-intake-clause-in_order
 returns-in_err-intake-clause-in_order g c =
@@ -33,7 +33,7 @@ returns-in_err-intake-clause-in_order g c =
     let q = option_map (λ f. f.now.graph) c.args.given in
     let k = c.args.order in
     call.handed_on (λ e. (o : Operation) → slice_get p.tie.operations n ≡ Some o → IsInOrder (setting_beside p.tie o s q) k
-    (source_seen g.S.Source.left g.S.Source.ended g.S.Source.faults c.args.source.now c.args.source.now) e
+    (source_over g.S.Source.seen c.args.source.now c.args.source.now) e
     (decoding_seen c.args.items.now c.args.items.now (g.L.Ledger.number c.args.steps.now) (g.L.Ledger.number c.args.steps.now))) c.from_residual.result fault.Memory c.from_residual.ensures.1
     (λ o there. tt)
 
@@ -45,7 +45,7 @@ returns-in_err-read_side-clause-fault g c =
     let q = option_map (λ f. f.now.graph) c.args.given in
     let k = c.args.order in
     let x = c.begin-stream.result in
-    let a = source_seen g.S.Source.left g.S.Source.ended g.S.Source.faults c.args.source.now c.read_side.new.source in
+    let a = source_over g.S.Source.seen c.args.source.now c.read_side.new.source in
     let t = decoding_seen c.args.items.now c.read_side.new.items (g.L.Ledger.number c.args.steps.now) (g.L.Ledger.number c.read_side.new.steps) in
     let e = c.in_err-read_side.field-0.0 in
     call.handed_on (λ e. (o : Operation) → slice_get p.tie.operations n ≡ Some o → IsFault (setting_beside p.tie o s q) k a e t) c.from_residual-in_err-read_side.result e
@@ -61,7 +61,7 @@ returns-in_err-read_side-clause-in_order g c =
     let q = option_map (λ f. f.now.graph) c.args.given in
     let k = c.args.order in
     let x = c.begin-stream.result in
-    let a = source_seen g.S.Source.left g.S.Source.ended g.S.Source.faults c.args.source.now c.read_side.new.source in
+    let a = source_over g.S.Source.seen c.args.source.now c.read_side.new.source in
     let t = decoding_seen c.args.items.now c.read_side.new.items (g.L.Ledger.number c.args.steps.now) (g.L.Ledger.number c.read_side.new.steps) in
     let e = c.in_err-read_side.field-0.0 in
     call.handed_on (λ e. (o : Operation) → slice_get p.tie.operations n ≡ Some o → IsInOrder (setting_beside p.tie o s q) k a e t) c.from_residual-in_err-read_side.result e
@@ -77,7 +77,7 @@ returns-in_err-read_side-clause-read_fault g c =
     let q = option_map (λ f. f.now.graph) c.args.given in
     let k = c.args.order in
     let x = c.begin-stream.result in
-    let a = source_seen g.S.Source.left g.S.Source.ended g.S.Source.faults c.args.source.now c.read_side.new.source in
+    let a = source_over g.S.Source.seen c.args.source.now c.read_side.new.source in
     let t = decoding_seen c.args.items.now c.read_side.new.items (g.L.Ledger.number c.args.steps.now) (g.L.Ledger.number c.read_side.new.steps) in
     let (o, there) = item_at p.tie.operations n c.requires.known in
     let e = c.in_err-read_side.field-0.0 in
@@ -104,7 +104,7 @@ finish-requires-clause-fits g c =
     let q = option_map (λ f. f.now.graph) c.args.given in
     let k = c.args.order in
     let x = c.begin-stream.result in
-    let a = source_seen g.S.Source.left g.S.Source.ended g.S.Source.faults c.args.source.now c.read_side.new.source in
+    let a = source_over g.S.Source.seen c.args.source.now c.read_side.new.source in
     let t = decoding_seen c.args.items.now c.read_side.new.items (g.L.Ledger.number c.args.steps.now) (g.L.Ledger.number c.read_side.new.steps) in
     let (o, there) = item_at p.tie.operations n c.requires.known in
     let read = c.in_ok-read_side.ensures.reads (setting_beside p.tie o s q) (call.legal p n s q o there k) (call.setting p n s q o there k) refl in
@@ -122,7 +122,7 @@ returns-clause-decoded g c =
     let q = option_map (λ f. f.now.graph) c.args.given in
     let k = c.args.order in
     let x = c.begin-stream.result in
-    let a = source_seen g.S.Source.left g.S.Source.ended g.S.Source.faults c.args.source.now c.read_side.new.source in
+    let a = source_over g.S.Source.seen c.args.source.now c.read_side.new.source in
     let t = decoding_seen c.args.items.now c.read_side.new.items (g.L.Ledger.number c.args.steps.now) (g.L.Ledger.number c.read_side.new.steps) in
     let z = c.read_side.new.stream in
     λ o there. call.decoded_as p n s q o there k x c.begin-stream.ensures.begins a t z c.finish.result.taken c.finish.result.fit c.finish.ensures.fit c.finish.ensures.taken

@@ -1,5 +1,5 @@
 use Rattle.std.proofs.Common.{List, [], Option, suc, ap, ◌∙◌, arith}
-use Rattle.nd_base.specs.Over.{count, source_seen}
+use Rattle.nd_base.specs.Over.{source_over}
 use Rattle.ndr_decoder_state.specs.Notes.{notes_seen}
 use Rattle.ndr_decoder_state.specs.Seen.{state_of}
 use Rattle.ndr_decoder_laws.specs.declared.kept.Kept.{Kept}
@@ -23,7 +23,7 @@ read_home-requires g c =
 pub returns-in_err-cell-clause-reads : goal.returns-in_err-cell-clause-reads
 returns-in_err-cell-clause-reads g c w side fetched noted direct s seen n table st r there instr =
     direct_unopened c.args.plan.now c.args.order c.args.to c.args.run c.args.stream.now w side fetched noted direct s seen n table st r there instr
-    (g.S.Source.left c.args.source.now) (g.S.Source.ended c.args.source.now) (count g.S.Source.faults c.args.source.now c.args.source.now) c.args.items.now
+    (g.S.Source.seen c.args.source.now).left (g.S.Source.seen c.args.source.now).ended (source_over g.S.Source.seen c.args.source.now c.args.source.now).faults c.args.items.now
     (g.L.Ledger.number c.args.steps.now) (g.L.Ledger.number c.open_reference.new.steps) _ c.in_err-cell.field-0.0 c.from_residual.result c.open_reference.ensures.few
     c.in_err-cell.ensures.memory c.from_residual.ensures.1
 
@@ -31,7 +31,7 @@ pub returns-in_err-read_home-clause-reads : goal.returns-in_err-read_home-clause
 returns-in_err-read_home-clause-reads g c w side fetched noted direct s seen n table st r there instr =
     direct_stops c.args.plan.now c.args.order c.args.to c.args.run c.args.stream.now w side fetched noted direct s seen n table st r there instr
     c.open_reference.new.self c.in_ok-cell.ensures.opens c.in_ok-cell.cell c.in_ok-cell.ensures.cell c.in_ok-cell.ensures.home
-    (source_seen g.S.Source.left g.S.Source.ended g.S.Source.faults c.args.source.now c.read_home.new.source)
+    (source_over g.S.Source.seen c.args.source.now c.read_home.new.source)
     (notes_seen c.args.items.now c.read_home.new.items (g.L.Ledger.number c.open_reference.new.steps)
     (g.L.Ledger.number c.read_home.new.steps) c.open_reference.new.self.machine.cells c.read_home.new.machine.cells)
     (g.L.Ledger.number c.args.steps.now) (state_of c.read_home.new.machine) _ c.in_err-read_home.field-0.0 c.from_residual-in_err-read_home.result c.in_ok-cell.ensures.tick
@@ -42,7 +42,7 @@ returns-clause-reads g c w side fetched noted direct s seen n table st r there i
     let keeps = c.open_reference.ensures.kept in
     direct_last c.args.plan.now c.args.order c.args.to c.args.run c.args.stream.now w side fetched noted direct s seen n table st r there instr
     c.open_reference.new.self c.in_ok-cell.ensures.opens c.in_ok-cell.cell c.in_ok-cell.ensures.cell c.in_ok-cell.ensures.home
-    (source_seen g.S.Source.left g.S.Source.ended g.S.Source.faults c.args.source.now c.read_home.new.source)
+    (source_over g.S.Source.seen c.args.source.now c.read_home.new.source)
     (notes_seen c.args.items.now c.read_home.new.items (g.L.Ledger.number c.open_reference.new.steps)
     (g.L.Ledger.number c.read_home.new.steps) c.open_reference.new.self.machine.cells c.read_home.new.machine.cells)
     (g.L.Ledger.number c.args.steps.now) c.in_ok-cell.ensures.tick _ c.end_reference.new.self c.in_ok-cell.ensures.builder

@@ -1,5 +1,5 @@
 use Rattle.std.proofs.Common.{[], suc}
-use Rattle.nd_base.specs.Over.{count, source_seen}
+use Rattle.nd_base.specs.Over.{source_over}
 use Rattle.ndr_decoder_state.specs.Notes.{notes_seen}
 use Rattle.ndr_decoder_state.specs.Seen.{state_of}
 use Rattle.ndr_decoder_stream.specs.Seen.{between_of}
@@ -23,14 +23,14 @@ read_home-requires g c =
 pub returns-in_err-open_root-clause-reads : goal.returns-in_err-open_root-clause-reads
 returns-in_err-open_root-clause-reads g c w side fetched noted direct s seen n table st r there instr =
     placed_unopened c.args.plan.now c.args.order c.args.run c.args.stream.now w side fetched noted direct s seen n table st r there instr
-    (g.S.Source.left c.args.source.now) (g.S.Source.ended c.args.source.now) (count g.S.Source.faults c.args.source.now c.args.source.now) c.args.items.now
+    (g.S.Source.seen c.args.source.now).left (g.S.Source.seen c.args.source.now).ended (source_over g.S.Source.seen c.args.source.now c.args.source.now).faults c.args.items.now
     (g.L.Ledger.number c.args.steps.now) _ c.in_err-open_root.field-0.0 c.from_residual.result c.in_err-open_root.ensures.memory c.from_residual.ensures.1
 
 pub returns-in_err-read_home-clause-reads : goal.returns-in_err-read_home-clause-reads
 returns-in_err-read_home-clause-reads g c w side fetched noted direct s seen n table st r there instr =
     placed_fault c.args.plan.now c.args.order c.args.run c.args.stream.now w side fetched noted direct s seen n table st r there instr
     c.open_root.new.self c.in_ok-open_root.ensures.opens c.in_ok-open_root.ensures.home
-    (source_seen g.S.Source.left g.S.Source.ended g.S.Source.faults c.args.source.now c.read_home.new.source)
+    (source_over g.S.Source.seen c.args.source.now c.read_home.new.source)
     (notes_seen c.args.items.now c.read_home.new.items (g.L.Ledger.number c.args.steps.now) (g.L.Ledger.number c.read_home.new.steps) c.open_root.new.self.machine.cells c.read_home.new.machine.cells)
     (state_of c.read_home.new.machine) _ c.in_err-read_home.field-0.0 c.from_residual-in_err-read_home.result c.in_err-read_home.ensures.ends c.from_residual-in_err-read_home.ensures.1
 
@@ -39,7 +39,7 @@ returns-clause-reads g c w side fetched noted direct s seen n table st r there i
     let keeps = c.open_root.ensures.kept in
     placed_last c.args.plan.now c.args.order c.args.run c.args.stream.now w side fetched noted direct s seen n table st r there instr
     c.open_root.new.self c.in_ok-open_root.ensures.opens c.in_ok-open_root.ensures.home
-    (source_seen g.S.Source.left g.S.Source.ended g.S.Source.faults c.args.source.now c.read_home.new.source)
+    (source_over g.S.Source.seen c.args.source.now c.read_home.new.source)
     (notes_seen c.args.items.now c.read_home.new.items (g.L.Ledger.number c.args.steps.now) (g.L.Ledger.number c.read_home.new.steps) c.open_root.new.self.machine.cells c.read_home.new.machine.cells)
     _ c.end_root.new.self c.in_ok-open_root.ensures.builder (record { wanted = keeps.wanted; todo = keeps.todo; roots = keeps.roots; cells = keeps.cells })
     c.in_ok-read_home.ensures.outside c.in_ok-read_home.ensures.ends c.end_root.result c.end_root.ensures.ends c.end_root.ensures.memory

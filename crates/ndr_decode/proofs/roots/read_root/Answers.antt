@@ -1,4 +1,4 @@
-use Rattle.nd_base.specs.Over.{source_seen}
+use Rattle.nd_base.specs.Over.{source_over}
 use Rattle.ndr_code.specs.declared.instr.Instr.TheVariants as op
 use Rattle.nd_grammar.specs.decoded.Verdict.{decoding_seen}
 use Rattle.ndr_decode.proofs.RootForms.{at_it, no_other, reads_it}
@@ -20,14 +20,14 @@ unreachable-requires g c =
 
 pub returns-in-Direct-clause-reads : goal.returns-in-Direct-clause-reads
 returns-in-Direct-clause-reads g c =
-    let source = source_seen g.S.Source.left g.S.Source.ended g.S.Source.faults c.args.source.now c.read_direct.new.source in
+    let source = source_over g.S.Source.seen c.args.source.now c.read_direct.new.source in
     let t = decoding_seen c.args.items.now c.read_direct.new.items (g.L.Ledger.number c.args.steps.now) (g.L.Ledger.number c.read_direct.new.steps) in
     reads_it c.args.plan.now c.args.order c.as_slice.result.now c.args.at c.as_slice.ensures c.args.stream.now c.read_direct.new.stream source t c.read_direct.result
     (op.Direct c.in-Direct.to c.in-Direct.run') c.in-Direct.is c.read_direct.ensures.reads
 
 pub returns-in-Call-clause-reads : goal.returns-in-Call-clause-reads
 returns-in-Call-clause-reads g c =
-    let source = source_seen g.S.Source.left g.S.Source.ended g.S.Source.faults c.args.source.now c.read_placed.new.source in
+    let source = source_over g.S.Source.seen c.args.source.now c.read_placed.new.source in
     let t = decoding_seen c.args.items.now c.read_placed.new.items (g.L.Ledger.number c.args.steps.now) (g.L.Ledger.number c.read_placed.new.steps) in
     reads_it c.args.plan.now c.args.order c.as_slice.result.now c.args.at c.as_slice.ensures c.args.stream.now c.read_placed.new.stream source t c.read_placed.result
     (op.Call c.in-Call.run') c.in-Call.is c.read_placed.ensures.reads

@@ -7,7 +7,7 @@ use Rattle.ndr_decode.proofs.roots.read_roots.Goals as goal
 pub loop-number-init : goal.loop-number-init
 loop-number-init g c = (
   roots_begin c.args.plan.now c.args.op c.args.side c.args.order c.args.stream.now c.requires.begins c.requires.whole c.first_line-number.result c.first_line-number.ensures
-      (g.S.Source.left c.args.source.now) (g.S.Source.ended c.args.source.now) (g.S.Source.faults c.args.source.now) c.args.items.now (g.L.Ledger.number c.args.steps.now),
+      (g.S.Source.seen c.args.source.now).left (g.S.Source.seen c.args.source.now).ended (g.S.Source.seen c.args.source.now).faults c.args.items.now (g.L.Ledger.number c.args.steps.now),
   (refl, le_refl _),
 )
 
@@ -45,7 +45,7 @@ pub returns-in_err-read_root-in-Entry-clause-reads : goal.returns-in_err-read_ro
 returns-in_err-read_root-in-Entry-clause-reads g c =
     handed_on c.args.plan.now c.args.op c.args.side c.args.order c.args.stream.now _ _ c.read_root.new.stream c.from_residual.result c.in_err-read_root-in-Entry.field-0.0 c.from_residual.ensures.1
     (root_faulty c.args.plan.now c.args.op c.args.side c.args.order _ _ _ _ _ _ _
-    (follows g.S.Source.left g.S.Source.ended g.S.Source.faults c.args.source.now c.loop-number.source c.read_root.new.source c.args.items.now c.loop-number.items c.read_root.new.items
+    (follows g.S.Source.seen c.args.source.now c.loop-number.source c.read_root.new.source c.args.items.now c.loop-number.items c.read_root.new.items
     (g.L.Ledger.number c.args.steps.now) (g.L.Ledger.number c.loop-number.steps) (g.L.Ledger.number c.read_root.new.steps)) c.loop-number.stream c.read_root.new.stream c.loop-number.number
     c.loop-number.invariant.0 c.in-Entry.op c.in-Entry.side c.in-Entry.name c.in-Entry.at
     (line_read c.args.plan.now c.as_slice-lines.result.now c.loop-number.number c.index-lines-number.result
@@ -60,7 +60,7 @@ pub read_pending-requires : goal.read_pending-requires
 read_pending-requires g c = record {
   streaming = streaming c.args.plan.now c.args.op c.args.side c.args.order _ _ _ c.read_root.new.stream (c.loop-number.number + 1) c.requires.known
       (root_went c.args.plan.now c.args.op c.args.side c.args.order _ _ _ _ _ _ _
-      (follows g.S.Source.left g.S.Source.ended g.S.Source.faults c.args.source.now c.loop-number.source c.read_root.new.source c.args.items.now c.loop-number.items c.read_root.new.items
+      (follows g.S.Source.seen c.args.source.now c.loop-number.source c.read_root.new.source c.args.items.now c.loop-number.items c.read_root.new.items
       (g.L.Ledger.number c.args.steps.now) (g.L.Ledger.number c.loop-number.steps) (g.L.Ledger.number c.read_root.new.steps)) c.loop-number.stream c.read_root.new.stream c.loop-number.number
       c.loop-number.invariant.0 c.in-Entry.op c.in-Entry.side c.in-Entry.name c.in-Entry.at
       (line_read c.args.plan.now c.as_slice-lines.result.now c.loop-number.number c.index-lines-number.result
@@ -75,11 +75,11 @@ returns-in_err-read_pending-in-Entry-clause-reads g c =
     c.in_err-read_pending-in-Entry.field-0.0
     c.from_residual-in_err-read_pending-in-Entry.ensures.1
     (pending_faulty c.args.plan.now c.args.op c.args.side c.args.order _ _ _ _ _ _ _
-    (follows g.S.Source.left g.S.Source.ended g.S.Source.faults c.args.source.now c.read_root.new.source c.read_pending.new.source c.args.items.now c.read_root.new.items c.read_pending.new.items
+    (follows g.S.Source.seen c.args.source.now c.read_root.new.source c.read_pending.new.source c.args.items.now c.read_root.new.items c.read_pending.new.items
     (g.L.Ledger.number c.args.steps.now) (g.L.Ledger.number c.read_root.new.steps) (g.L.Ledger.number c.read_pending.new.steps)) c.read_root.new.stream c.read_pending.new.stream
     (c.loop-number.number + 1)
     (root_went c.args.plan.now c.args.op c.args.side c.args.order _ _ _ _ _ _ _
-    (follows g.S.Source.left g.S.Source.ended g.S.Source.faults c.args.source.now c.loop-number.source c.read_root.new.source c.args.items.now c.loop-number.items c.read_root.new.items
+    (follows g.S.Source.seen c.args.source.now c.loop-number.source c.read_root.new.source c.args.items.now c.loop-number.items c.read_root.new.items
     (g.L.Ledger.number c.args.steps.now) (g.L.Ledger.number c.loop-number.steps) (g.L.Ledger.number c.read_root.new.steps)) c.loop-number.stream c.read_root.new.stream c.loop-number.number
     c.loop-number.invariant.0 c.in-Entry.op c.in-Entry.side c.in-Entry.name c.in-Entry.at
     (line_read c.args.plan.now c.as_slice-lines.result.now c.loop-number.number c.index-lines-number.result
@@ -94,11 +94,11 @@ returns-in_err-read_pending-in-Entry-clause-later g c = le_trans (le_trans c.loo
 pub loop-number-preserved : goal.loop-number-preserved
 loop-number-preserved g c = (
   pending_went c.args.plan.now c.args.op c.args.side c.args.order _ _ _ _ _ _ _
-      (follows g.S.Source.left g.S.Source.ended g.S.Source.faults c.args.source.now c.read_root.new.source c.read_pending.new.source c.args.items.now c.read_root.new.items c.read_pending.new.items
+      (follows g.S.Source.seen c.args.source.now c.read_root.new.source c.read_pending.new.source c.args.items.now c.read_root.new.items c.read_pending.new.items
       (g.L.Ledger.number c.args.steps.now) (g.L.Ledger.number c.read_root.new.steps) (g.L.Ledger.number c.read_pending.new.steps)) c.read_root.new.stream c.read_pending.new.stream
       (c.loop-number.number + 1)
       (root_went c.args.plan.now c.args.op c.args.side c.args.order _ _ _ _ _ _ _
-      (follows g.S.Source.left g.S.Source.ended g.S.Source.faults c.args.source.now c.loop-number.source c.read_root.new.source c.args.items.now c.loop-number.items c.read_root.new.items
+      (follows g.S.Source.seen c.args.source.now c.loop-number.source c.read_root.new.source c.args.items.now c.loop-number.items c.read_root.new.items
       (g.L.Ledger.number c.args.steps.now) (g.L.Ledger.number c.loop-number.steps) (g.L.Ledger.number c.read_root.new.steps)) c.loop-number.stream c.read_root.new.stream c.loop-number.number
       c.loop-number.invariant.0 c.in-Entry.op c.in-Entry.side c.in-Entry.name c.in-Entry.at
       (line_read c.args.plan.now c.as_slice-lines.result.now c.loop-number.number c.index-lines-number.result

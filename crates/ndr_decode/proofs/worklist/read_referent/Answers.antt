@@ -1,5 +1,5 @@
 use Rattle.std.proofs.Common.{◌≡◌, List, Option, None, Ok, Err, length, refl, ap, ◌∙◌, arith}
-use Rattle.nd_base.specs.Over.{source_seen}
+use Rattle.nd_base.specs.Over.{source_over}
 use Rattle.ndr_decoder_state.specs.Notes.{notes_seen}
 use Rattle.ndr_decoder_state.specs.Seen.{state_of}
 use Rattle.ndr_decoder_state.specs.declared.fault.DecodeFault.TheVariants as fault
@@ -32,7 +32,7 @@ returns-in_err-read_home-clause-reads g c w side fetched noted direct s seen p p
     let x = c.args.stream.now in
     let m1 = c.open_cell.new.self.machine in
     let m2 = c.read_home.new.machine in
-    let source = source_seen g.S.Source.left g.S.Source.ended g.S.Source.faults c.args.source.now c.read_home.new.source in
+    let source = source_over g.S.Source.seen c.args.source.now c.read_home.new.source in
     let notes = notes_seen c.args.items.now c.read_home.new.items (g.L.Ledger.number c.args.steps.now) (g.L.Ledger.number c.read_home.new.steps) m1.cells m2.cells in
     let e = c.in_err-read_home.field-0.0 in
     taking_fault w side c.args.order fetched noted (cells_of x) n source (decoding_of notes) _ c.from_residual.result e c.from_residual.ensures.1
@@ -55,7 +55,7 @@ returns-in_err-pass_cell-clause-reads g c w side fetched noted direct s seen p p
     let x = c.args.stream.now in
     let m1 = c.open_cell.new.self.machine in
     let m2 = c.read_home.new.machine in
-    let source = source_seen g.S.Source.left g.S.Source.ended g.S.Source.faults c.args.source.now c.read_home.new.source in
+    let source = source_over g.S.Source.seen c.args.source.now c.read_home.new.source in
     let notes = notes_seen c.args.items.now c.read_home.new.items (g.L.Ledger.number c.args.steps.now) (g.L.Ledger.number c.read_home.new.steps) m1.cells m2.cells in
     taking_fault w side c.args.order fetched noted (cells_of x) n source (decoding_of notes) _ c.from_residual-in_err-pass_cell.result fault.Memory c.from_residual-in_err-pass_cell.ensures.1
     (cut_then c.args.plan.now c.args.order c.args.owed x c.args.cell c.requires.cell c.requires.unread c.open_cell.new.self o.opens o.builder o.home w side fetched noted
@@ -67,7 +67,7 @@ returns-in_err-next-clause-reads g c w side fetched noted direct s seen p ps n t
     let x = c.args.stream.now in
     let m1 = c.open_cell.new.self.machine in
     let m2 = c.read_home.new.machine in
-    let source = source_seen g.S.Source.left g.S.Source.ended g.S.Source.faults c.args.source.now c.read_home.new.source in
+    let source = source_over g.S.Source.seen c.args.source.now c.read_home.new.source in
     let notes = notes_seen c.args.items.now c.read_home.new.items (g.L.Ledger.number c.args.steps.now) (g.L.Ledger.number c.read_home.new.steps) m1.cells m2.cells in
     taking_fault w side c.args.order fetched noted (cells_of x) n source (decoding_of notes) _ c.from_residual-in_err-next.result fault.Memory c.from_residual-in_err-next.ensures.1
     (cut_then c.args.plan.now c.args.order c.args.owed x c.args.cell c.requires.cell c.requires.unread c.open_cell.new.self o.opens o.builder o.home w side fetched noted
@@ -79,7 +79,7 @@ returns-then-owed-eq0-clause-reads g c w side fetched noted direct s seen p ps n
     let x = c.args.stream.now in
     let m1 = c.open_cell.new.self.machine in
     let m2 = c.read_home.new.machine in
-    let source = source_seen g.S.Source.left g.S.Source.ended g.S.Source.faults c.args.source.now c.read_home.new.source in
+    let source = source_over g.S.Source.seen c.args.source.now c.read_home.new.source in
     let notes = notes_seen c.args.items.now c.read_home.new.items (g.L.Ledger.number c.args.steps.now) (g.L.Ledger.number c.read_home.new.steps) m1.cells m2.cells in
     let e = c.in_ok-pass_cell.ensures.ends in
     let z = c.in_ok-next.ensures in
@@ -95,7 +95,7 @@ returns-then-owed-eq0-clause-paid g c =
     let x = c.args.stream.now in
     let m1 = c.open_cell.new.self.machine in
     let m2 = c.read_home.new.machine in
-    let source = source_seen g.S.Source.left g.S.Source.ended g.S.Source.faults c.args.source.now c.read_home.new.source in
+    let source = source_over g.S.Source.seen c.args.source.now c.read_home.new.source in
     let notes = notes_seen c.args.items.now c.read_home.new.items (g.L.Ledger.number c.args.steps.now) (g.L.Ledger.number c.read_home.new.steps) m1.cells m2.cells in
     let e = c.in_ok-pass_cell.ensures.ends in
     let z = c.in_ok-next.ensures in
@@ -127,7 +127,7 @@ returns-in_err-kept-clause-reads g c w side fetched noted direct s seen p ps n t
     let x = c.args.stream.now in
     let m1 = c.open_cell.new.self.machine in
     let m2 = c.read_home.new.machine in
-    let source = source_seen g.S.Source.left g.S.Source.ended g.S.Source.faults c.args.source.now c.read_home.new.source in
+    let source = source_over g.S.Source.seen c.args.source.now c.read_home.new.source in
     let notes = notes_seen c.args.items.now c.read_home.new.items (g.L.Ledger.number c.args.steps.now) (g.L.Ledger.number c.read_home.new.steps) m1.cells m2.cells in
     let e = c.in_err-kept.field-0.0 in
     taking_fault w side c.args.order fetched noted (cells_of x) n source (decoding_of notes) _ c.from_residual-in_err-kept.result e c.from_residual-in_err-kept.ensures.1
@@ -147,7 +147,7 @@ returns-in_err-try_all-clause-reads g c w side fetched noted direct s seen p ps 
     let x = c.args.stream.now in
     let m1 = c.open_cell.new.self.machine in
     let m2 = c.read_home.new.machine in
-    let source = source_seen g.S.Source.left g.S.Source.ended g.S.Source.faults c.args.source.now c.read_home.new.source in
+    let source = source_over g.S.Source.seen c.args.source.now c.read_home.new.source in
     let notes = notes_seen c.args.items.now c.read_home.new.items (g.L.Ledger.number c.args.steps.now) (g.L.Ledger.number c.read_home.new.steps) m1.cells m2.cells in
     let e = c.in_err-try_all.field-0.0 in
     let k = c.in_ok-kept.kept in
@@ -163,7 +163,7 @@ returns-in_err-settle-clause-reads g c w side fetched noted direct s seen p ps n
     let x = c.args.stream.now in
     let m1 = c.open_cell.new.self.machine in
     let m2 = c.read_home.new.machine in
-    let source = source_seen g.S.Source.left g.S.Source.ended g.S.Source.faults c.args.source.now c.read_home.new.source in
+    let source = source_over g.S.Source.seen c.args.source.now c.read_home.new.source in
     let notes = notes_seen c.args.items.now c.read_home.new.items (g.L.Ledger.number c.args.steps.now) (g.L.Ledger.number c.read_home.new.steps) m1.cells m2.cells in
     taking_fault w side c.args.order fetched noted (cells_of x) n source (decoding_of notes) _ c.from_residual-in_err-settle.result fault.Memory c.from_residual-in_err-settle.ensures.1
     (cut_then c.args.plan.now c.args.order c.args.owed x c.args.cell c.requires.cell c.requires.unread c.open_cell.new.self o.opens o.builder o.home w side fetched noted
@@ -175,7 +175,7 @@ returns-clause-reads g c w side fetched noted direct s seen p ps n table st =
     let x = c.args.stream.now in
     let m1 = c.open_cell.new.self.machine in
     let m2 = c.read_home.new.machine in
-    let source = source_seen g.S.Source.left g.S.Source.ended g.S.Source.faults c.args.source.now c.read_home.new.source in
+    let source = source_over g.S.Source.seen c.args.source.now c.read_home.new.source in
     let notes = notes_seen c.args.items.now c.read_home.new.items (g.L.Ledger.number c.args.steps.now) (g.L.Ledger.number c.read_home.new.steps) m1.cells m2.cells in
     let k = c.in_ok-kept.kept in
     let e = c.in_ok-kept.ensures in
@@ -193,7 +193,7 @@ returns-clause-paid g c =
     let x = c.args.stream.now in
     let m1 = c.open_cell.new.self.machine in
     let m2 = c.read_home.new.machine in
-    let source = source_seen g.S.Source.left g.S.Source.ended g.S.Source.faults c.args.source.now c.read_home.new.source in
+    let source = source_over g.S.Source.seen c.args.source.now c.read_home.new.source in
     let notes = notes_seen c.args.items.now c.read_home.new.items (g.L.Ledger.number c.args.steps.now) (g.L.Ledger.number c.read_home.new.steps) m1.cells m2.cells in
     let k = c.in_ok-kept.kept in
     let e = c.in_ok-kept.ensures in

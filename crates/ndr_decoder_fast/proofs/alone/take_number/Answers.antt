@@ -13,21 +13,23 @@ use Rattle.ndr_decoder_fast.proofs.alone.take_number.Goals as goal
 
 pub returns-then-left-lt-MOST-clause-takes : goal.returns-then-left-lt-MOST-clause-takes
 returns-then-left-lt-MOST-clause-takes g c =
-    nothing_taken c.args.order (g.S.Source.left c.args.source.now) (g.S.Source.left c.args.source.now) (g.S.Source.ended c.args.source.now) (g.S.Source.faults c.args.source.now)
-    (g.S.Source.faults c.args.source.now) (g.L.Ledger.number c.args.steps.now) (g.L.Ledger.number c.args.steps.now) (state_of c.args.machine.now) (state_of c.args.machine.now)
+    nothing_taken c.args.order (g.S.Source.seen c.args.source.now).left (g.S.Source.seen c.args.source.now).left (g.S.Source.seen c.args.source.now).ended (g.S.Source.seen c.args.source.now).faults
+    (g.S.Source.seen c.args.source.now).faults (g.L.Ledger.number c.args.steps.now) (g.L.Ledger.number c.args.steps.now) (state_of c.args.machine.now) (state_of c.args.machine.now)
     (op.Num c.args.of) refl refl refl
 
 pub returns-then-not-at_hand-clause-takes : goal.returns-then-not-at_hand-clause-takes
 returns-then-not-at_hand-clause-takes g c =
-    nothing_taken c.args.order (g.S.Source.left c.args.source.now) (g.S.Source.left c.at_hand.new.source) (g.S.Source.ended c.at_hand.new.source) (g.S.Source.faults c.args.source.now)
-    (g.S.Source.faults c.at_hand.new.source) (g.L.Ledger.number c.args.steps.now) (g.L.Ledger.number c.args.steps.now) (state_of c.args.machine.now) (state_of c.args.machine.now)
+    nothing_taken c.args.order (g.S.Source.seen c.args.source.now).left (g.S.Source.seen c.at_hand.new.source).left (g.S.Source.seen c.at_hand.new.source).ended
+    (g.S.Source.seen c.args.source.now).faults
+    (g.S.Source.seen c.at_hand.new.source).faults (g.L.Ledger.number c.args.steps.now) (g.L.Ledger.number c.args.steps.now) (state_of c.args.machine.now) (state_of c.args.machine.now)
     (op.Num c.args.of) refl
     (c.if-not-at_hand.ensures.nothing refl) refl
 
 pub returns-in_err-add_number-clause-takes : goal.returns-in_err-add_number-clause-takes
 returns-in_err-add_number-clause-takes g c =
-    step_stopped c.args.order (g.S.Source.left c.args.source.now) (g.S.Source.left c.at_hand.new.source) (g.S.Source.ended c.at_hand.new.source) (g.S.Source.faults c.args.source.now)
-    (g.S.Source.faults c.at_hand.new.source) (g.L.Ledger.number c.args.steps.now) (g.L.Ledger.number c.args.steps.now) (state_of c.args.machine.now) (state_of c.add_number.new.machine)
+    step_stopped c.args.order (g.S.Source.seen c.args.source.now).left (g.S.Source.seen c.at_hand.new.source).left (g.S.Source.seen c.at_hand.new.source).ended
+    (g.S.Source.seen c.args.source.now).faults
+    (g.S.Source.seen c.at_hand.new.source).faults (g.L.Ledger.number c.args.steps.now) (g.L.Ledger.number c.args.steps.now) (state_of c.args.machine.now) (state_of c.add_number.new.machine)
     (op.Num c.args.of)
     c.at_hand.new.octets (c.if-not-at_hand.ensures.came refl) refl c.in_err-add_number.field-0.0 c.from_residual.result c.from_residual.ensures.1
 
@@ -41,8 +43,9 @@ returns-clause-takes g c =
     let size : length os ≡ width (prim_of c.args.of.0) = came ∙ is_wide ∙ ap width prim in
     let few : c.form_width-wide.result ≤ 8 = c.form_width-wide.ensures.few in
     let left : 8 ≤ STREAM_LIMIT - m.at = omega (arith, c.if-left-lt-MOST.false) in
-    number_taken c.args.order (g.S.Source.left c.args.source.now) (g.S.Source.left c.at_hand.new.source) (g.S.Source.ended c.at_hand.new.source) (g.S.Source.faults c.args.source.now)
-    (g.S.Source.faults c.at_hand.new.source) (g.L.Ledger.number c.args.steps.now) (g.L.Ledger.number c.tick.new.self) (state_of m) (state_of c.pass.new.self) c.args.of os
+    number_taken c.args.order (g.S.Source.seen c.args.source.now).left (g.S.Source.seen c.at_hand.new.source).left (g.S.Source.seen c.at_hand.new.source).ended
+    (g.S.Source.seen c.args.source.now).faults
+    (g.S.Source.seen c.at_hand.new.source).faults (g.L.Ledger.number c.args.steps.now) (g.L.Ledger.number c.tick.new.self) (state_of m) (state_of c.pass.new.self) c.args.of os
     (c.if-not-at_hand.ensures.came refl) size (omega (arith, came, few, left))
     (c.pass.ensures.is ∙ ap (λ k. done_after k (state_of c.add_number.new.machine)) (is_wide ∙ ap width prim)
     ∙ ap (λ (s : State). done_after (width (prim_of c.args.of.0)) s) c.in_ok-add_number.ensures.ok

@@ -1,4 +1,4 @@
-use Rattle.nd_base.specs.Over.{source_seen}
+use Rattle.nd_base.specs.Over.{source_over}
 use Rattle.ndr_decoder_state.specs.Seen.{state_of}
 use Rattle.ndr_decoder_fast.proofs.ElementsTaken.{address_fits}
 use Rattle.ndr_decoder_fast.proofs.OneStep.{few_nodes, few_cells}
@@ -21,7 +21,7 @@ pub returns-in_err-leapt-clause-leaps : goal.returns-in_err-leapt-clause-leaps
 returns-in_err-leapt-clause-leaps g c =
     let m = c.args.machine.now in
     leap_stopped c.args.values.now c.args.order c.args.code.now m.home (state_of m)
-    (source_seen g.S.Source.left g.S.Source.ended g.S.Source.faults c.args.source.now c.leap_alone.new.source) (g.L.Ledger.number c.args.steps.now)
+    (source_over g.S.Source.seen c.args.source.now c.leap_alone.new.source) (g.L.Ledger.number c.args.steps.now)
     (g.L.Ledger.number c.leap_alone.new.steps) (state_of c.leap_alone.new.machine) c.in_err-leapt.field-0.0 c.from_residual.result
     (c.in_err-leapt.ensures.takes c.args.values.now c.args.code.now m.home c.requires.here) c.from_residual.ensures.1
 
@@ -29,6 +29,6 @@ pub returns-clause-leaps : goal.returns-clause-leaps
 returns-clause-leaps g c =
     let m = c.args.machine.now in
     leaps_on c.args.values.now c.args.order c.args.code.now m.home (state_of m)
-    (source_seen g.S.Source.left g.S.Source.ended g.S.Source.faults c.args.source.now c.leap_alone.new.source) (g.L.Ledger.number c.args.steps.now)
+    (source_over g.S.Source.seen c.args.source.now c.leap_alone.new.source) (g.L.Ledger.number c.args.steps.now)
     (g.L.Ledger.number c.leap_alone.new.steps) (state_of c.leap_alone.new.machine) c.in_ok-leapt.leapt
     (c.in_ok-leapt.ensures.takes c.args.values.now c.args.code.now m.home c.requires.here)

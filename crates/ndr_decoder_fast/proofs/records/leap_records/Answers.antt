@@ -1,6 +1,6 @@
 use Rattle.std.proofs.Common.{◌≡◌, [], length, true, sym, ap, ◌∙◌, subst, arith, rules}
 use Rattle.std.specs.Io.KnownBytes.{Consumes}
-use Rattle.nd_base.specs.Over.{source_seen}
+use Rattle.nd_base.specs.Over.{source_over}
 use Rattle.nd_types.specs.Number.{AreOctets}
 use Rattle.nd_flat.specs.Records.{members_of}
 use Rattle.ndr_code.specs.declared.instr.Instr.TheVariants as op
@@ -24,7 +24,7 @@ pub returns-in_err-read_elements-clause-leaps : goal.returns-in_err-read_element
 returns-in_err-read_elements-clause-leaps g c =
     let m = c.args.machine.now in
     let m1 = c.read_elements.new.machine in
-    let source = source_seen g.S.Source.left g.S.Source.ended g.S.Source.faults c.args.source.now c.at_hand.new.source in
+    let source = source_over g.S.Source.seen c.args.source.now c.at_hand.new.source in
     let came : c.at_hand.result ≡ true = search rules in
     given_up c.args.values.now c.args.order c.args.code.now m.home (state_of m) (state_of m1) source c.at_hand.new.self (g.L.Ledger.number c.args.steps.now)
     (g.L.Ledger.number c.read_elements.new.steps) c.from_residual.result c.in_err-read_elements.field-0.0 c.from_residual.ensures.1
@@ -36,7 +36,7 @@ returns-clause-leaps g c =
     let m = c.args.machine.now in
     let e = c.in-Some.elements in
     let os = c.octets-2.result.now in
-    let source = source_seen g.S.Source.left g.S.Source.ended g.S.Source.faults c.args.source.now c.at_hand.new.source in
+    let source = source_over g.S.Source.seen c.args.source.now c.at_hand.new.source in
     let came : c.at_hand.result ≡ true = search rules in
     let octets : AreOctets c.at_hand.new.self = subst AreOctets c.octets.ensures c.are_octets.ensures in
     elements_leapt c.args.values.now c.args.order c.args.code.now m.home (state_of m) (members_of e.members) e.count e.len os source (state_of c.read_elements.new.machine) e.members.len

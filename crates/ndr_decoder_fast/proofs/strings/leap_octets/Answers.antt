@@ -5,5 +5,5 @@ use Rattle.ndr_decoder_fast.proofs.strings.leap_octets.Goals as goal
 
 pub returns-then-count-gt-SHORT-clause-reads : goal.returns-then-count-gt-SHORT-clause-reads
 returns-then-count-gt-SHORT-clause-reads g c =
-    nothing_read c.args.order c.args.bound (g.S.Source.left c.args.source.now) (g.S.Source.left c.args.source.now) (g.S.Source.ended c.args.source.now)
-    (g.S.Source.faults c.args.source.now) (g.S.Source.faults c.args.source.now) (state_of c.args.machine.now) (g.L.Ledger.number c.args.steps.now) tt refl
+    nothing_read c.args.order c.args.bound (g.S.Source.seen c.args.source.now).left (g.S.Source.seen c.args.source.now).left (g.S.Source.seen c.args.source.now).ended
+    (g.S.Source.seen c.args.source.now).faults (g.S.Source.seen c.args.source.now).faults (state_of c.args.machine.now) (g.L.Ledger.number c.args.steps.now) tt refl

@@ -27,10 +27,10 @@ pub returns-in_err-leap_offset-clause-leaps : goal.returns-in_err-leap_offset-cl
 returns-in_err-leap_offset-clause-leaps g c =
     let m = c.args.machine.now in
     let few : c.gap_before-gap.result ≤ 4 = omega (arith, c.gap_before-gap.ensures.is) in
-    string_failed c.args.values.now c.args.order c.args.code.now m.home (g.S.Source.left c.args.source.now) (g.S.Source.left c.take_maximum.new.source)
-    (g.S.Source.ended c.take_maximum.new.source) (g.S.Source.faults c.args.source.now) (g.S.Source.faults c.take_maximum.new.source) c.in-Some.ahead.run c.in-Some.ahead.bound
+    string_failed c.args.values.now c.args.order c.args.code.now m.home (g.S.Source.seen c.args.source.now).left (g.S.Source.seen c.take_maximum.new.source).left
+    (g.S.Source.seen c.take_maximum.new.source).ended (g.S.Source.seen c.args.source.now).faults (g.S.Source.seen c.take_maximum.new.source).faults c.in-Some.ahead.run c.in-Some.ahead.bound
     c.gap_before-gap.result c.in-Some-take_maximum.max (state_of m) c.requires.here c.in-Some.ensures c.gap_before-gap.ensures.is few c.in-Some-take_maximum.ensures.came
-    (g.S.Source.left c.leap_offset.new.source) (g.S.Source.ended c.leap_offset.new.source) (g.S.Source.faults c.leap_offset.new.source) (g.L.Ledger.number c.args.steps.now)
+    (g.S.Source.seen c.leap_offset.new.source).left (g.S.Source.seen c.leap_offset.new.source).ended (g.S.Source.seen c.leap_offset.new.source).faults (g.L.Ledger.number c.args.steps.now)
     (g.L.Ledger.number c.tick.new.self) (g.L.Ledger.number c.leap_offset.new.steps) (state_of c.pass_maximum.new.machine) (state_of c.leap_offset.new.machine) c.tick.ensures
     c.pass_maximum.ensures.is c.in_err-leap_offset.field-0.0 c.from_residual.result c.in_err-leap_offset.ensures.reads c.from_residual.ensures.1
 
@@ -38,9 +38,9 @@ pub returns-clause-leaps : goal.returns-clause-leaps
 returns-clause-leaps g c =
     let m = c.args.machine.now in
     let few : c.gap_before-gap.result ≤ 4 = omega (arith, c.gap_before-gap.ensures.is) in
-    string_leapt c.args.values.now c.args.order c.args.code.now m.home (g.S.Source.left c.args.source.now) (g.S.Source.left c.take_maximum.new.source)
-    (g.S.Source.ended c.take_maximum.new.source) (g.S.Source.faults c.args.source.now) (g.S.Source.faults c.take_maximum.new.source) c.in-Some.ahead.run c.in-Some.ahead.bound
+    string_leapt c.args.values.now c.args.order c.args.code.now m.home (g.S.Source.seen c.args.source.now).left (g.S.Source.seen c.take_maximum.new.source).left
+    (g.S.Source.seen c.take_maximum.new.source).ended (g.S.Source.seen c.args.source.now).faults (g.S.Source.seen c.take_maximum.new.source).faults c.in-Some.ahead.run c.in-Some.ahead.bound
     c.gap_before-gap.result c.in-Some-take_maximum.max (state_of m) c.requires.here c.in-Some.ensures c.gap_before-gap.ensures.is few c.in-Some-take_maximum.ensures.came
-    (g.S.Source.left c.leap_offset.new.source) (g.S.Source.ended c.leap_offset.new.source) (g.S.Source.faults c.leap_offset.new.source) (g.L.Ledger.number c.args.steps.now)
+    (g.S.Source.seen c.leap_offset.new.source).left (g.S.Source.seen c.leap_offset.new.source).ended (g.S.Source.seen c.leap_offset.new.source).faults (g.L.Ledger.number c.args.steps.now)
     (g.L.Ledger.number c.tick.new.self) (g.L.Ledger.number c.leap_offset.new.steps) (state_of c.pass_maximum.new.machine) (state_of c.leap_offset.new.machine) c.tick.ensures
     c.pass_maximum.ensures.is c.in_ok-leap_offset.field-0 c.in_ok-leap_offset.ensures.reads

@@ -1,5 +1,5 @@
 use Rattle.std.proofs.Common.{◌++◌, refl, subst}
-use Rattle.nd_base.specs.Over.{source_seen}
+use Rattle.nd_base.specs.Over.{source_over}
 use Rattle.nd_grammar.specs.decoded.Verdict.{decoding_seen}
 use Rattle.ndr_decoder_stream.specs.Chunks.{Counts}
 use Rattle.ndr_decoder_stream.proofs.Alone.{gap_stopped_alone, told_both}
@@ -8,8 +8,8 @@ use Rattle.ndr_decoder_stream.proofs.counts.chunk_count.Goals as goal
 
 pub returns-in_err-pass_gap-clause-reads : goal.returns-in_err-pass_gap-clause-reads
 returns-in_err-pass_gap-clause-reads g c w fetched noted direct first i rs roots elem done max_at k few p here =
-    let a = source_seen g.S.Source.left g.S.Source.ended g.S.Source.faults c.args.source.now c.pass_gap.new.source in
-    let b = source_seen g.S.Source.left g.S.Source.ended g.S.Source.faults c.pass_gap.new.source c.pass_gap.new.source in
+    let a = source_over g.S.Source.seen c.args.source.now c.pass_gap.new.source in
+    let b = source_over g.S.Source.seen c.pass_gap.new.source c.pass_gap.new.source in
     let s = decoding_seen c.args.items.now c.pass_gap.new.items (g.L.Ledger.number c.args.steps.now) (g.L.Ledger.number c.pass_gap.new.steps) in
     let t = decoding_seen c.pass_gap.new.items c.pass_gap.new.items (g.L.Ledger.number c.pass_gap.new.steps) (g.L.Ledger.number c.pass_gap.new.steps) in
     stopped_first w c.args.order fetched noted direct first i rs roots elem done max_at c.args.machine.now.cells a b a s t s
@@ -19,9 +19,9 @@ returns-in_err-pass_gap-clause-reads g c w fetched noted direct first i rs roots
 
 pub returns-clause-reads : goal.returns-clause-reads
 returns-clause-reads g c w fetched noted direct first i rs roots elem done max_at k few p here =
-    let a = source_seen g.S.Source.left g.S.Source.ended g.S.Source.faults c.args.source.now c.pass_gap.new.source in
-    let b = source_seen g.S.Source.left g.S.Source.ended g.S.Source.faults c.pass_gap.new.source c.pass_count.new.source in
-    let z = source_seen g.S.Source.left g.S.Source.ended g.S.Source.faults c.args.source.now c.pass_count.new.source in
+    let a = source_over g.S.Source.seen c.args.source.now c.pass_gap.new.source in
+    let b = source_over g.S.Source.seen c.pass_gap.new.source c.pass_count.new.source in
+    let z = source_over g.S.Source.seen c.args.source.now c.pass_count.new.source in
     let s = decoding_seen c.args.items.now c.pass_gap.new.items (g.L.Ledger.number c.args.steps.now) (g.L.Ledger.number c.pass_gap.new.steps) in
     let t = decoding_seen c.pass_gap.new.items c.pass_count.new.items (g.L.Ledger.number c.pass_gap.new.steps) (g.L.Ledger.number c.pass_count.new.steps) in
     let u = decoding_seen c.args.items.now c.pass_count.new.items (g.L.Ledger.number c.args.steps.now) (g.L.Ledger.number c.pass_count.new.steps) in
@@ -35,15 +35,15 @@ returns-clause-reads g c w fetched noted direct first i rs roots elem done max_a
 
 pub returns-in_err-pass_gap-clause-alone : goal.returns-in_err-pass_gap-clause-alone
 returns-in_err-pass_gap-clause-alone g c =
-    let a = source_seen g.S.Source.left g.S.Source.ended g.S.Source.faults c.args.source.now c.pass_gap.new.source in
+    let a = source_over g.S.Source.seen c.args.source.now c.pass_gap.new.source in
     let s = decoding_seen c.args.items.now c.pass_gap.new.items (g.L.Ledger.number c.args.steps.now) (g.L.Ledger.number c.pass_gap.new.steps) in
     gap_stopped_alone c.args.order a s c.args.machine.now c.pass_gap.new.machine c.in_err-pass_gap.field-0.0 c.in_err-pass_gap.ensures.alone c.from_residual.result c.from_residual.ensures.1
 
 pub returns-clause-alone : goal.returns-clause-alone
 returns-clause-alone g c =
-    let a = source_seen g.S.Source.left g.S.Source.ended g.S.Source.faults c.args.source.now c.pass_gap.new.source in
-    let b = source_seen g.S.Source.left g.S.Source.ended g.S.Source.faults c.pass_gap.new.source c.pass_count.new.source in
-    let z = source_seen g.S.Source.left g.S.Source.ended g.S.Source.faults c.args.source.now c.pass_count.new.source in
+    let a = source_over g.S.Source.seen c.args.source.now c.pass_gap.new.source in
+    let b = source_over g.S.Source.seen c.pass_gap.new.source c.pass_count.new.source in
+    let z = source_over g.S.Source.seen c.args.source.now c.pass_count.new.source in
     let s = decoding_seen c.args.items.now c.pass_gap.new.items (g.L.Ledger.number c.args.steps.now) (g.L.Ledger.number c.pass_gap.new.steps) in
     let t = decoding_seen c.pass_gap.new.items c.pass_count.new.items (g.L.Ledger.number c.pass_gap.new.steps) (g.L.Ledger.number c.pass_count.new.steps) in
     let u = decoding_seen c.args.items.now c.pass_count.new.items (g.L.Ledger.number c.args.steps.now) (g.L.Ledger.number c.pass_count.new.steps) in

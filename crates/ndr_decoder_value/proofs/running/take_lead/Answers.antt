@@ -5,6 +5,6 @@ use Rattle.ndr_decoder_value.proofs.running.take_lead.Goals as goal
 
 pub returns-clause-turns : goal.returns-clause-turns
 returns-clause-turns g c =
-    moves_none c.args.values.now c.args.order c.args.code.now c.args.machine.now.home (state_of c.args.machine.now) (g.S.Source.left c.args.source.now)
-    (g.S.Source.ended c.args.source.now) (g.S.Source.faults c.args.source.now) c.args.items.now (g.L.Ledger.number c.args.steps.now) c.args.machine.now.cells
-    (Consumes-nil (g.S.Source.left c.args.source.now))
+    moves_none c.args.values.now c.args.order c.args.code.now c.args.machine.now.home (state_of c.args.machine.now) (g.S.Source.seen c.args.source.now).left
+    (g.S.Source.seen c.args.source.now).ended (g.S.Source.seen c.args.source.now).faults c.args.items.now (g.L.Ledger.number c.args.steps.now) c.args.machine.now.cells
+    (Consumes-nil (g.S.Source.seen c.args.source.now).left)

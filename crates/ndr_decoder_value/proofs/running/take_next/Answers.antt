@@ -2,7 +2,7 @@ use Rattle.std.proofs.Common.{◌≤◌, [], ◌∙◌, arith, sym}
 use Rattle.std.proofs.lemmas.Option.{slice_get_within}
 use Rattle.std.proofs.KnownBytes.{Consumes-nil}
 use Rattle.nd_base.specs.declared.TheConstants.{STREAM_LIMIT}
-use Rattle.nd_base.specs.Over.{source_seen}
+use Rattle.nd_base.specs.Over.{source_over}
 use Rattle.ndr_decoder_laws.specs.runs.Reaching.{IsSafe, begins}
 use Rattle.ndr_decoder_state.specs.Seen.{state_of}
 use Rattle.ndr_decoder_value.proofs.Taking.{count_fits}
@@ -31,15 +31,15 @@ take_flow-requires-clause-fits g c =
 pub returns-in_err-progress-clause-turns : goal.returns-in_err-progress-clause-turns
 returns-in_err-progress-clause-turns g c =
     let m = c.args.machine.now in
-    flow_stopped c.args.values.now c.args.order c.args.code.now m.home m (source_seen g.S.Source.left g.S.Source.ended g.S.Source.faults c.args.source.now c.args.source.now) c.at-instr.result
-    c.at-instr.ensures (Consumes-nil (g.S.Source.left c.args.source.now)) c.args.items.now (g.L.Ledger.number c.args.steps.now) c.take_flow.new.machine
+    flow_stopped c.args.values.now c.args.order c.args.code.now m.home m (source_over g.S.Source.seen c.args.source.now c.args.source.now) c.at-instr.result
+    c.at-instr.ensures (Consumes-nil (g.S.Source.seen c.args.source.now).left) c.args.items.now (g.L.Ledger.number c.args.steps.now) c.take_flow.new.machine
     c.from_residual.result c.from_residual.ensures.1
 
 pub returns-then-is_flow-clause-turns : goal.returns-then-is_flow-clause-turns
 returns-then-is_flow-clause-turns g c =
     let m = c.args.machine.now in
-    flow_taken c.args.values.now c.args.order c.args.code.now m.home m (source_seen g.S.Source.left g.S.Source.ended g.S.Source.faults c.args.source.now c.args.source.now) c.at-instr.result
-    c.at-instr.ensures (Consumes-nil (g.S.Source.left c.args.source.now)) c.args.items.now (g.L.Ledger.number c.args.steps.now) c.take_flow.new.machine
+    flow_taken c.args.values.now c.args.order c.args.code.now m.home m (source_over g.S.Source.seen c.args.source.now c.args.source.now) c.at-instr.result
+    c.at-instr.ensures (Consumes-nil (g.S.Source.seen c.args.source.now).left) c.args.items.now (g.L.Ledger.number c.args.steps.now) c.take_flow.new.machine
     c.in_ok-progress.progress (sym c.is_flow.ensures ∙ c.if-is_flow.true) c.requires.safe c.in_ok-progress.ensures.does
 
 pub row_len-count-requires : goal.row_len-count-requires

@@ -1,5 +1,5 @@
 use Rattle.std.proofs.Common.{[], arith, subst}
-use Rattle.nd_base.specs.Over.{source_seen}
+use Rattle.nd_base.specs.Over.{source_over}
 use Rattle.nd_types.specs.Number.{AreOctets}
 use Rattle.ndr_decoder_laws.specs.steps.Steps.{step}
 use Rattle.ndr_decoder_laws.specs.steps.StepItems.{step_items}
@@ -22,7 +22,7 @@ fetch-came-requires-clause-within g c =
 pub returns-in_err-came-clause-turns : goal.returns-in_err-came-clause-turns
 returns-in_err-came-clause-turns g c =
     let m = c.args.machine.now in
-    one_stopped c.args.values.now c.args.order c.args.code.now m.home m (source_seen g.S.Source.left g.S.Source.ended g.S.Source.faults c.args.source.now c.fetch-came.new.source)
+    one_stopped c.args.values.now c.args.order c.args.code.now m.home m (source_over g.S.Source.seen c.args.source.now c.fetch-came.new.source)
     c.args.instr c.fetch-came.new.intake c.requires.here (subst AreOctets c.octets.ensures c.are_octets.ensures) c.fetch-came.ensures.left c.args.items.now
     (g.L.Ledger.number c.args.steps.now) m c.in_err-came.field-0.0 c.from_residual.result c.in_err-came.ensures.fetched c.from_residual.ensures.1
 
@@ -46,7 +46,7 @@ returns-clause-turns g c =
     let m = c.args.machine.now in
     let n = c.take_step.new.machine in
     let notes = notes_seen c.args.items.now c.take_step.new.items (g.L.Ledger.number c.args.steps.now) (g.L.Ledger.number c.take_step.new.steps) m.cells n.cells in
-    one_taken c.args.values.now c.args.order c.args.code.now m.home m (source_seen g.S.Source.left g.S.Source.ended g.S.Source.faults c.args.source.now c.fetch-came.new.source)
+    one_taken c.args.values.now c.args.order c.args.code.now m.home m (source_over g.S.Source.seen c.args.source.now c.fetch-came.new.source)
     c.args.instr c.fetch-came.new.intake c.requires.here (subst AreOctets c.octets.ensures c.are_octets.ensures) c.fetch-came.ensures.left c.args.items.now
     (g.L.Ledger.number c.args.steps.now) n c.take_step.new.items (g.L.Ledger.number c.take_step.new.steps) c.take_step.result c.requires.safe c.in_ok-came.ensures.fetched
     (subst (λ o. Comes (step c.args.values.now c.args.order o c.args.instr (state_of m)) c.take_step.result (state_of n)) c.octets-2.ensures c.take_step.ensures.does)

@@ -1,7 +1,7 @@
 use Rattle.std.proofs.Common.{◌≤◌, [], arith}
 use Rattle.std.proofs.KnownBytes.{Consumes-nil}
 use Rattle.nd_base.specs.declared.TheConstants.{STREAM_LIMIT}
-use Rattle.nd_base.specs.Over.{source_seen}
+use Rattle.nd_base.specs.Over.{source_over}
 use Rattle.ndr_decoder_laws.specs.runs.Reaching.{IsSafe, begins}
 use Rattle.ndr_decoder_state.specs.Seen.{state_of}
 use Rattle.ndr_decoder_fast.proofs.ElementsTaken.{address_fits}
@@ -19,6 +19,6 @@ pass_quick-requires-clause-fits g c =
 pub returns-clause-turns : goal.returns-clause-turns
 returns-clause-turns g c =
     let m = c.args.machine.now in
-    flow_taken c.args.values.now c.args.order c.args.code.now m.home m (source_seen g.S.Source.left g.S.Source.ended g.S.Source.faults c.args.source.now c.args.source.now) c.args.instr
-    c.requires.here (Consumes-nil (g.S.Source.left c.args.source.now)) c.args.items.now (g.L.Ledger.number c.args.steps.now) c.pass_quick.new.machine
+    flow_taken c.args.values.now c.args.order c.args.code.now m.home m (source_over g.S.Source.seen c.args.source.now c.args.source.now) c.args.instr
+    c.requires.here (Consumes-nil (g.S.Source.seen c.args.source.now).left) c.args.items.now (g.L.Ledger.number c.args.steps.now) c.pass_quick.new.machine
     c.pass_quick.result (quick_flows c.args.instr m.at c.requires.quick) c.requires.safe c.pass_quick.ensures.does

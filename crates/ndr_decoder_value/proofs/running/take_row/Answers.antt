@@ -1,5 +1,5 @@
 use Rattle.std.proofs.Common.{◌≡◌, ◌<◌, ◌≤◌, ◌*◌, ◌/◌, ◌+◌, ◌^◌, [], length, take, Ok, Err, sym, ap, ◌∙◌, subst, arith}
-use Rattle.nd_base.specs.Over.{source_seen}
+use Rattle.nd_base.specs.Over.{source_over}
 use Rattle.nd_types.specs.Number.{AreOctets}
 use Rattle.nd_types.specs.Table.{width}
 use Rattle.ndr_code.specs.declared.instr.Instr.TheVariants as op
@@ -19,7 +19,7 @@ use Rattle.ndr_decoder_value.proofs.running.take_row.Goals as goal
 pub note_whole-requires-clause-few : goal.note_whole-requires-clause-few
 note_whole-requires-clause-few g c =
     let m = c.args.machine.now in
-    let source = source_seen g.S.Source.left g.S.Source.ended g.S.Source.faults c.args.source.now c.item.new.source in
+    let source = source_over g.S.Source.seen c.args.source.now c.item.new.source in
     let fewer : length c.item.new.self < c.args.count * width (prim_of c.args.of.0) =
     row_fewer c.args.of c.args.count m.at c.width_of.result c.prim_of-prim.result source c.item.new.self c.item.result c.in-Err.fault c.prim_of-prim.ensures c.width_of.ensures.value
     c.width_of.ensures.some (omega (arith, c.requires.many)) (sym c.fetched-came.ensures ∙ c.in-Err.is) c.item.ensures.fault in
@@ -33,7 +33,7 @@ returns-in_err-note_whole-clause-turns g c =
     let m = c.args.machine.now in
     let o = c.args.order in
     let e = c.in_err-note_whole.field-0.0 in
-    let source = source_seen g.S.Source.left g.S.Source.ended g.S.Source.faults c.args.source.now c.item.new.source in
+    let source = source_over g.S.Source.seen c.args.source.now c.item.new.source in
     let notes = notes_seen c.args.items.now c.note_whole.new.items (g.L.Ledger.number c.args.steps.now) (g.L.Ledger.number c.note_whole.new.steps) m.cells m.cells in
     let fewer : length c.item.new.self < c.args.count * width (prim_of c.args.of.0) =
     row_fewer c.args.of c.args.count m.at c.width_of.result c.prim_of-prim.result source c.item.new.self c.item.result c.in-Err.fault c.prim_of-prim.ensures c.width_of.ensures.value
@@ -50,7 +50,7 @@ returns-in-Err-clause-turns g c =
     let m = c.args.machine.now in
     let o = c.args.order in
     let u = c.in_ok-note_whole.field-0 in
-    let source = source_seen g.S.Source.left g.S.Source.ended g.S.Source.faults c.args.source.now c.item.new.source in
+    let source = source_over g.S.Source.seen c.args.source.now c.item.new.source in
     let notes = notes_seen c.args.items.now c.note_whole.new.items (g.L.Ledger.number c.args.steps.now) (g.L.Ledger.number c.note_whole.new.steps) m.cells m.cells in
     let is = sym c.fetched-came.ensures ∙ c.in-Err.is in
     let fewer : length c.item.new.self < c.args.count * width (prim_of c.args.of.0) =
@@ -80,7 +80,7 @@ returns-in_err-read_row-clause-turns g c =
     let m = c.args.machine.now in
     let o = c.args.order in
     let e = c.in_err-read_row.field-0.0 in
-    let source = source_seen g.S.Source.left g.S.Source.ended g.S.Source.faults c.args.source.now c.item.new.source in
+    let source = source_over g.S.Source.seen c.args.source.now c.item.new.source in
     let notes = notes_seen c.args.items.now c.read_row.new.items (g.L.Ledger.number c.args.steps.now) (g.L.Ledger.number c.read_row.new.steps) m.cells c.read_row.new.machine.cells in
     let all : length c.item.new.self ≡ c.args.count * width (prim_of c.args.of.0) =
     row_size c.args.of c.args.count c.width_of.result c.prim_of-prim.result c.item.new.self c.item.result c.in_default.field-0 c.prim_of-prim.ensures c.width_of.ensures.value
@@ -97,7 +97,7 @@ returns-clause-turns g c =
     let o = c.args.order in
     let u = c.in_ok-read_row.field-0 in
     let s1 = state_of c.read_row.new.machine in
-    let source = source_seen g.S.Source.left g.S.Source.ended g.S.Source.faults c.args.source.now c.item.new.source in
+    let source = source_over g.S.Source.seen c.args.source.now c.item.new.source in
     let notes = notes_seen c.args.items.now c.read_row.new.items (g.L.Ledger.number c.args.steps.now) (g.L.Ledger.number c.read_row.new.steps) m.cells c.read_row.new.machine.cells in
     let all : length c.item.new.self ≡ c.args.count * width (prim_of c.args.of.0) =
     row_size c.args.of c.args.count c.width_of.result c.prim_of-prim.result c.item.new.self c.item.result c.in_default.field-0 c.prim_of-prim.ensures c.width_of.ensures.value

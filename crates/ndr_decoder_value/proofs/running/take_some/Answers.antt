@@ -1,5 +1,5 @@
 use Rattle.std.proofs.Common.{false, true, Ok, ap, subst}
-use Rattle.nd_base.specs.Over.{source_seen}
+use Rattle.nd_base.specs.Over.{source_over}
 use Rattle.ndr_decoder_fast.specs.Leaps.{Leaps}
 use Rattle.ndr_decoder_state.specs.Seen.{state_of}
 use Rattle.ndr_decoder_value.proofs.Leaping.{leapt_moves, stays_moves, leap_failed, turned_after}
@@ -9,7 +9,7 @@ use Rattle.ndr_decoder_value.proofs.running.take_some.Goals as goal
 pub returns-in_err-leapt-clause-turns : goal.returns-in_err-leapt-clause-turns
 returns-in_err-leapt-clause-turns g c =
     let m = c.args.machine.now in
-    let source = source_seen g.S.Source.left g.S.Source.ended g.S.Source.faults c.args.source.now c.try_leap.new.source in
+    let source = source_over g.S.Source.seen c.args.source.now c.try_leap.new.source in
     leap_failed c.args.values.now c.args.order c.args.code.now m.home (state_of m) source (g.L.Ledger.number c.args.steps.now) (g.L.Ledger.number c.try_leap.new.steps)
     c.args.items.now (state_of c.try_leap.new.machine) m.cells c.try_leap.new.machine.cells c.in_err-leapt.ensures.fault c.requires.safe c.in_err-leapt.field-0.0
     c.from_residual.result c.in_err-leapt.ensures.leaps c.from_residual.ensures.1
@@ -17,7 +17,7 @@ returns-in_err-leapt-clause-turns g c =
 pub returns-then-leapt-clause-turns : goal.returns-then-leapt-clause-turns
 returns-then-leapt-clause-turns g c =
     let m = c.args.machine.now in
-    let source = source_seen g.S.Source.left g.S.Source.ended g.S.Source.faults c.args.source.now c.try_leap.new.source in
+    let source = source_over g.S.Source.seen c.args.source.now c.try_leap.new.source in
     leapt_moves c.args.values.now c.args.order c.args.code.now m.home (state_of m) source (g.L.Ledger.number c.args.steps.now) (g.L.Ledger.number c.try_leap.new.steps)
     c.args.items.now (state_of c.try_leap.new.machine) m.cells c.try_leap.new.machine.cells (c.in_ok-leapt.ensures.quiet c.if-leapt.true)
     (subst (λ b. Leaps c.args.values.now c.args.order c.args.code.now m.home (state_of m) source (g.L.Ledger.number c.args.steps.now) (g.L.Ledger.number c.try_leap.new.steps)
@@ -26,7 +26,7 @@ returns-then-leapt-clause-turns g c =
 pub take_next-requires-clause-safe : goal.take_next-requires-clause-safe
 take_next-requires-clause-safe g c =
     let m = c.args.machine.now in
-    let source = source_seen g.S.Source.left g.S.Source.ended g.S.Source.faults c.args.source.now c.try_leap.new.source in
+    let source = source_over g.S.Source.seen c.args.source.now c.try_leap.new.source in
     still_safe
     (stays_moves c.args.values.now c.args.order c.args.code.now m.home (state_of m) source (g.L.Ledger.number c.args.steps.now) (g.L.Ledger.number c.try_leap.new.steps)
     c.args.items.now (state_of c.try_leap.new.machine) m.cells c.try_leap.new.machine.cells
@@ -38,10 +38,11 @@ pub returns-clause-turns : goal.returns-clause-turns
 returns-clause-turns g c =
     let m = c.args.machine.now in
     let n = c.try_leap.new.machine in
-    let source = source_seen g.S.Source.left g.S.Source.ended g.S.Source.faults c.args.source.now c.try_leap.new.source in
-    turned_after c.args.values.now c.args.order c.args.code.now m.home (g.S.Source.left c.args.source.now) (g.S.Source.left c.try_leap.new.source) (g.S.Source.left c.take_next.new.source)
-    (g.S.Source.ended c.try_leap.new.source) (g.S.Source.ended c.take_next.new.source) (g.S.Source.faults c.args.source.now) (g.S.Source.faults c.try_leap.new.source)
-    (g.S.Source.faults c.take_next.new.source) c.args.items.now c.args.items.now c.take_next.new.items (g.L.Ledger.number c.args.steps.now) (g.L.Ledger.number c.try_leap.new.steps)
+    let source = source_over g.S.Source.seen c.args.source.now c.try_leap.new.source in
+    turned_after c.args.values.now c.args.order c.args.code.now m.home (g.S.Source.seen c.args.source.now).left (g.S.Source.seen c.try_leap.new.source).left
+    (g.S.Source.seen c.take_next.new.source).left
+    (g.S.Source.seen c.try_leap.new.source).ended (g.S.Source.seen c.take_next.new.source).ended (g.S.Source.seen c.args.source.now).faults (g.S.Source.seen c.try_leap.new.source).faults
+    (g.S.Source.seen c.take_next.new.source).faults c.args.items.now c.args.items.now c.take_next.new.items (g.L.Ledger.number c.args.steps.now) (g.L.Ledger.number c.try_leap.new.steps)
     (g.L.Ledger.number c.take_next.new.steps) m.cells n.cells c.take_next.new.machine.cells (state_of m) (state_of n) (state_of c.take_next.new.machine) n.home
     (ap (λ u. u.home) c.in_ok-leapt.ensures.outside)
     (stays_moves c.args.values.now c.args.order c.args.code.now m.home (state_of m) source (g.L.Ledger.number c.args.steps.now) (g.L.Ledger.number c.try_leap.new.steps)

@@ -1,5 +1,5 @@
 use Rattle.std.proofs.Common.{ap, subst}
-use Rattle.nd_base.specs.Over.{source_seen}
+use Rattle.nd_base.specs.Over.{source_over}
 use Rattle.nd_lemmas.proofs.Lists.{item_at}
 use Rattle.nd_grammar.specs.decoded.Verdict.{decoding_seen}
 use Rattle.ndr_pipe.specs.Ends.{ends_seen}
@@ -15,7 +15,7 @@ give_lines-requires-clause-sound g c =
     let i = intake_seen c.args.intake.now in
     let (o, there) = item_at i.interface.operations i.op c.requires.ready.known in
     let w = setting_in i o in
-    let s = source_seen g.S.Source.left g.S.Source.ended g.S.Source.faults c.args.source.now c.chunk.new.source in
+    let s = source_over g.S.Source.seen c.args.source.now c.chunk.new.source in
     let t = decoding_seen c.args.items.now c.chunk.new.items (g.L.Ledger.number c.args.steps.now) (g.L.Ledger.number c.chunk.new.steps) in
     let read = subst (λ x. IsAnswered w s t i (intake_seen c.chunk.new.self) x) c.in-Ok-Some.field-0-is (c.in-Ok-Some.ensures.read o there) in
     sound_for w c.args.interface.now.types i.spot.root c.args.of.0 c.in-Ok-Some.vals (ap (λ j. j.types) c.requires.tied) (c.requires.of o there) read.0.read.elements
@@ -24,7 +24,7 @@ pub returns-in-Ok-clause-passed : goal.returns-in-Ok-clause-passed
 returns-in-Ok-clause-passed g c o there =
     let i = intake_seen c.args.intake.now in
     let w = setting_in i o in
-    let s = source_seen g.S.Source.left g.S.Source.ended g.S.Source.faults c.args.source.now c.chunk.new.source in
+    let s = source_over g.S.Source.seen c.args.source.now c.chunk.new.source in
     let t = decoding_seen c.args.items.now c.chunk.new.items (g.L.Ledger.number c.args.steps.now) (g.L.Ledger.number c.chunk.new.steps) in
     let read = subst (λ x. IsAnswered w s t i (intake_seen c.chunk.new.self) x) c.in-Ok-Some.field-0-is (c.in-Ok-Some.ensures.read o there) in
     given w c.args.interface.now.types (ap (λ j. j.types) c.requires.tied) i (intake_seen c.chunk.new.self) s t c.in-Ok-Some.vals c.args.which c.args.of.0
@@ -34,7 +34,7 @@ pub returns-in-Err-Memory-clause-cause : goal.returns-in-Err-Memory-clause-cause
 returns-in-Err-Memory-clause-cause g c o there =
     let i = intake_seen c.args.intake.now in
     let w = setting_in i o in
-    let s = source_seen g.S.Source.left g.S.Source.ended g.S.Source.faults c.args.source.now c.chunk.new.source in
+    let s = source_over g.S.Source.seen c.args.source.now c.chunk.new.source in
     let t = decoding_seen c.args.items.now c.chunk.new.items (g.L.Ledger.number c.args.steps.now) (g.L.Ledger.number c.chunk.new.steps) in
     let read = subst (λ x. IsAnswered w s t i (intake_seen c.chunk.new.self) x) c.in-Ok-Some.field-0-is (c.in-Ok-Some.ensures.read o there) in
     let ends = ends_seen g.E.PipeEnd.seen c.args.ends.now in
@@ -47,7 +47,7 @@ pub returns-in-Ok-Some-clause-cause : goal.returns-in-Ok-Some-clause-cause
 returns-in-Ok-Some-clause-cause g c o there =
     let i = intake_seen c.args.intake.now in
     let w = setting_in i o in
-    let s = source_seen g.S.Source.left g.S.Source.ended g.S.Source.faults c.args.source.now c.chunk.new.source in
+    let s = source_over g.S.Source.seen c.args.source.now c.chunk.new.source in
     let t = decoding_seen c.args.items.now c.chunk.new.items (g.L.Ledger.number c.args.steps.now) (g.L.Ledger.number c.chunk.new.steps) in
     let read = subst (λ x. IsAnswered w s t i (intake_seen c.chunk.new.self) x) c.in-Ok-Some.field-0-is (c.in-Ok-Some.ensures.read o there) in
     let ends = ends_seen g.E.PipeEnd.seen c.args.ends.now in
@@ -60,7 +60,7 @@ pub returns-in-Ok-finish-clause-passed : goal.returns-in-Ok-finish-clause-passed
 returns-in-Ok-finish-clause-passed g c o there =
     let i = intake_seen c.args.intake.now in
     let w = setting_in i o in
-    let s = source_seen g.S.Source.left g.S.Source.ended g.S.Source.faults c.args.source.now c.chunk.new.source in
+    let s = source_over g.S.Source.seen c.args.source.now c.chunk.new.source in
     let t = decoding_seen c.args.items.now c.chunk.new.items (g.L.Ledger.number c.args.steps.now) (g.L.Ledger.number c.chunk.new.steps) in
     let read = subst (λ x. IsAnswered w s t i (intake_seen c.chunk.new.self) x) c.in-Ok-None.field-0-is (c.in-Ok-None.ensures.read o there) in
     finished w i (intake_seen c.chunk.new.self) s t c.args.which (ends_seen g.E.PipeEnd.seen c.args.ends.now) (ends_seen g.E.PipeEnd.seen c.finish.new.self) read (c.requires.which o there)
@@ -70,7 +70,7 @@ pub returns-in-Ok-None-clause-cause : goal.returns-in-Ok-None-clause-cause
 returns-in-Ok-None-clause-cause g c o there =
     let i = intake_seen c.args.intake.now in
     let w = setting_in i o in
-    let s = source_seen g.S.Source.left g.S.Source.ended g.S.Source.faults c.args.source.now c.chunk.new.source in
+    let s = source_over g.S.Source.seen c.args.source.now c.chunk.new.source in
     let t = decoding_seen c.args.items.now c.chunk.new.items (g.L.Ledger.number c.args.steps.now) (g.L.Ledger.number c.chunk.new.steps) in
     let read = subst (λ x. IsAnswered w s t i (intake_seen c.chunk.new.self) x) c.in-Ok-None.field-0-is (c.in-Ok-None.ensures.read o there) in
     finish_failed w i (intake_seen c.chunk.new.self) s t c.args.which (ends_seen g.E.PipeEnd.seen c.args.ends.now) (ends_seen g.E.PipeEnd.seen c.finish.new.self) read (c.requires.which o there)

@@ -1,6 +1,6 @@
 use Rattle.std.proofs.Common.{◌≡◌, get_or, ◌∙◌, ◌<◌, ap, refl, sym, length, arith, ◌-◌}
 use Rattle.std.proofs.lemmas.Result.{err_from_is_err_and}
-use Rattle.nd_base.specs.Over.{source_seen}
+use Rattle.nd_base.specs.Over.{source_over}
 use Rattle.nd_value.specs.Deferral.{before_pipes}
 use Rattle.nd_value.specs.Setting.{root_list}
 use Rattle.nd_value.proofs.FewRoots.{few_before_pipes}
@@ -21,7 +21,7 @@ pipes-init g c = record {
   way = λ o there.
       let first = intake_seen c.args.intake.now in
       let w = setting_in first o in
-      at_first w first (g.S.Source.left c.args.source.now) (g.S.Source.ended c.args.source.now) (g.S.Source.faults c.args.source.now) (ends_seen g.E.PipeEnd.seen c.args.ends.now)
+      at_first w first (g.S.Source.seen c.args.source.now).left (g.S.Source.seen c.args.source.now).ended (g.S.Source.seen c.args.source.now).faults (ends_seen g.E.PipeEnd.seen c.args.ends.now)
       c.args.items.now (g.L.Ledger.number c.args.steps.now) (c.requires.first o there) (c.requires.all o there) (few_before_pipes (root_list w)) c.requires.open;
   ready = c.requires.ready;
   is = refl;
@@ -43,8 +43,9 @@ drain_chunk-requires-clause-of g c =
     let w = setting_in first o in
     let are = c.requires.types o there in
     let many : n ≡ length (root_list w) - before_pipes (root_list w) = sym (as_many c.args.types.now) ∙ are.all in
-    let at = at_root w first (intake_seen c.pipes.intake) (g.S.Source.left c.args.source.now) (g.S.Source.left c.pipes.source) (g.S.Source.left c.pipes.source) (g.S.Source.ended c.pipes.source)
-    (g.S.Source.ended c.pipes.source) (g.S.Source.faults c.args.source.now) (g.S.Source.faults c.pipes.source) (g.S.Source.faults c.pipes.source)
+    let at = at_root w first (intake_seen c.pipes.intake) (g.S.Source.seen c.args.source.now).left (g.S.Source.seen c.pipes.source).left (g.S.Source.seen c.pipes.source).left
+    (g.S.Source.seen c.pipes.source).ended
+    (g.S.Source.seen c.pipes.source).ended (g.S.Source.seen c.args.source.now).faults (g.S.Source.seen c.pipes.source).faults (g.S.Source.seen c.pipes.source).faults
     (ends_seen g.E.PipeEnd.seen c.args.ends.now) (ends_seen g.E.PipeEnd.seen c.pipes.ends) c.args.items.now c.pipes.items c.pipes.items (g.L.Ledger.number c.args.steps.now)
     (g.L.Ledger.number c.pipes.steps) (g.L.Ledger.number c.pipes.steps) (c.pipes.invariant.way o there) (length c.args.types.now) c.pipes_left-left.result many c.pipes_left-left.ensures in
     let below : n - c.pipes_left-left.result < n = below_all w first now _ _ _ (c.pipes.invariant.way o there) n c.pipes_left-left.result many c.pipes_left-left.ensures
@@ -58,8 +59,9 @@ drain_chunk-requires-clause-which g c =
     of_moved first now c.pipes.invariant.is (λ w. length c.args.types.now - c.pipes_left-left.result ≡ end_of_root w now.spot.root) (λ o there.
     let w = setting_in first o in
     let are = c.requires.types o there in
-    at_end w first (intake_seen c.pipes.intake) (g.S.Source.left c.args.source.now) (g.S.Source.left c.pipes.source) (g.S.Source.left c.pipes.source) (g.S.Source.ended c.pipes.source)
-    (g.S.Source.ended c.pipes.source) (g.S.Source.faults c.args.source.now) (g.S.Source.faults c.pipes.source) (g.S.Source.faults c.pipes.source)
+    at_end w first (intake_seen c.pipes.intake) (g.S.Source.seen c.args.source.now).left (g.S.Source.seen c.pipes.source).left (g.S.Source.seen c.pipes.source).left
+    (g.S.Source.seen c.pipes.source).ended
+    (g.S.Source.seen c.pipes.source).ended (g.S.Source.seen c.args.source.now).faults (g.S.Source.seen c.pipes.source).faults (g.S.Source.seen c.pipes.source).faults
     (ends_seen g.E.PipeEnd.seen c.args.ends.now) (ends_seen g.E.PipeEnd.seen c.pipes.ends) c.args.items.now c.pipes.items c.pipes.items (g.L.Ledger.number c.args.steps.now)
     (g.L.Ledger.number c.pipes.steps) (g.L.Ledger.number c.pipes.steps) (c.pipes.invariant.way o there) (length c.args.types.now) c.pipes_left-left.result
     (sym (as_many c.args.types.now) ∙ are.all) c.pipes_left-left.ensures)
@@ -69,8 +71,9 @@ drain_chunk-requires-clause-open g c =
     let first = intake_seen c.args.intake.now in
     let (o, there) = item_at first.interface.operations first.op c.requires.ready.known in
     let w = setting_in first o in
-    open_now w first (intake_seen c.pipes.intake) (g.S.Source.left c.args.source.now) (g.S.Source.left c.pipes.source) (g.S.Source.left c.pipes.source) (g.S.Source.ended c.pipes.source)
-    (g.S.Source.ended c.pipes.source) (g.S.Source.faults c.args.source.now) (g.S.Source.faults c.pipes.source) (g.S.Source.faults c.pipes.source)
+    open_now w first (intake_seen c.pipes.intake) (g.S.Source.seen c.args.source.now).left (g.S.Source.seen c.pipes.source).left (g.S.Source.seen c.pipes.source).left
+    (g.S.Source.seen c.pipes.source).ended
+    (g.S.Source.seen c.pipes.source).ended (g.S.Source.seen c.args.source.now).faults (g.S.Source.seen c.pipes.source).faults (g.S.Source.seen c.pipes.source).faults
     (ends_seen g.E.PipeEnd.seen c.args.ends.now) (ends_seen g.E.PipeEnd.seen c.pipes.ends) c.args.items.now c.pipes.items c.pipes.items (g.L.Ledger.number c.args.steps.now)
     (g.L.Ledger.number c.pipes.steps) (g.L.Ledger.number c.pipes.steps) (c.pipes.invariant.way o there) (length c.args.types.now) c.pipes_left-left.result
     (let are = c.requires.types o there in sym (as_many c.args.types.now) ∙ are.all) c.requires.enough c.pipes_left-left.ensures
@@ -85,10 +88,10 @@ pipes-smaller g c =
     let w = setting_in first o in
     let ends = ends_seen g.E.PipeEnd.seen in
     let passed = of_first first now c.pipes.invariant.is (λ w. HasPassed w now next
-    (source_seen g.S.Source.left g.S.Source.ended g.S.Source.faults c.pipes.source c.drain_chunk.new.source) (ends_over g.E.PipeEnd.seen c.pipes.ends c.drain_chunk.new.ends)
+    (source_over g.S.Source.seen c.pipes.source c.drain_chunk.new.source) (ends_over g.E.PipeEnd.seen c.pipes.ends c.drain_chunk.new.ends)
     (decoding_seen c.pipes.items c.drain_chunk.new.items (g.L.Ledger.number c.pipes.steps) (g.L.Ledger.number c.drain_chunk.new.steps))) c.in_ok-drain_chunk.ensures.passed o there in
-    turn_less w first now (g.S.Source.left c.args.source.now) (g.S.Source.left c.pipes.source) (g.S.Source.left c.drain_chunk.new.source) (g.S.Source.ended c.pipes.source)
-    (g.S.Source.ended c.drain_chunk.new.source) (g.S.Source.faults c.args.source.now) (g.S.Source.faults c.pipes.source) (g.S.Source.faults c.drain_chunk.new.source)
+    turn_less w first now (g.S.Source.seen c.args.source.now).left (g.S.Source.seen c.pipes.source).left (g.S.Source.seen c.drain_chunk.new.source).left (g.S.Source.seen c.pipes.source).ended
+    (g.S.Source.seen c.drain_chunk.new.source).ended (g.S.Source.seen c.args.source.now).faults (g.S.Source.seen c.pipes.source).faults (g.S.Source.seen c.drain_chunk.new.source).faults
     (ends c.args.ends.now) (ends c.pipes.ends) c.args.items.now c.pipes.items c.drain_chunk.new.items (g.L.Ledger.number c.args.steps.now) (g.L.Ledger.number c.pipes.steps)
     (g.L.Ledger.number c.drain_chunk.new.steps) (c.pipes.invariant.way o there) next (ends c.drain_chunk.new.ends) passed
 
@@ -99,20 +102,22 @@ pipes-preserved g c =
     let next = intake_seen c.drain_chunk.new.intake in
     let ends = ends_seen g.E.PipeEnd.seen in
     let passed = of_first first now c.pipes.invariant.is (λ w. HasPassed w now next
-    (source_seen g.S.Source.left g.S.Source.ended g.S.Source.faults c.pipes.source c.drain_chunk.new.source) (ends_over g.E.PipeEnd.seen c.pipes.ends c.drain_chunk.new.ends)
+    (source_over g.S.Source.seen c.pipes.source c.drain_chunk.new.source) (ends_over g.E.PipeEnd.seen c.pipes.ends c.drain_chunk.new.ends)
     (decoding_seen c.pipes.items c.drain_chunk.new.items (g.L.Ledger.number c.pipes.steps) (g.L.Ledger.number c.drain_chunk.new.steps))) c.in_ok-drain_chunk.ensures.passed in
     let some : 0 < now.left = omega (arith, c.pipes-test.true, c.pipes_left.ensures) in
     let (o, there) = item_at first.interface.operations first.op c.requires.ready.known in
     record {
       way = λ o there.
-          turn (setting_in first o) first now (g.S.Source.left c.args.source.now) (g.S.Source.left c.pipes.source) (g.S.Source.left c.drain_chunk.new.source) (g.S.Source.ended c.pipes.source)
-          (g.S.Source.ended c.drain_chunk.new.source) (g.S.Source.faults c.args.source.now) (g.S.Source.faults c.pipes.source) (g.S.Source.faults c.drain_chunk.new.source)
+          turn (setting_in first o) first now (g.S.Source.seen c.args.source.now).left (g.S.Source.seen c.pipes.source).left (g.S.Source.seen c.drain_chunk.new.source).left
+          (g.S.Source.seen c.pipes.source).ended
+          (g.S.Source.seen c.drain_chunk.new.source).ended (g.S.Source.seen c.args.source.now).faults (g.S.Source.seen c.pipes.source).faults (g.S.Source.seen c.drain_chunk.new.source).faults
           (ends c.args.ends.now) (ends c.pipes.ends) c.args.items.now c.pipes.items c.drain_chunk.new.items (g.L.Ledger.number c.args.steps.now) (g.L.Ledger.number c.pipes.steps)
           (g.L.Ledger.number c.drain_chunk.new.steps) (c.pipes.invariant.way o there) next (ends c.drain_chunk.new.ends) some (passed o there);
       ready = c.in_ok-drain_chunk.ensures.ready;
       is =
-          turn_is (setting_in first o) first now (g.S.Source.left c.args.source.now) (g.S.Source.left c.pipes.source) (g.S.Source.left c.drain_chunk.new.source) (g.S.Source.ended c.pipes.source)
-          (g.S.Source.ended c.drain_chunk.new.source) (g.S.Source.faults c.args.source.now) (g.S.Source.faults c.pipes.source) (g.S.Source.faults c.drain_chunk.new.source)
+          turn_is (setting_in first o) first now (g.S.Source.seen c.args.source.now).left (g.S.Source.seen c.pipes.source).left (g.S.Source.seen c.drain_chunk.new.source).left
+          (g.S.Source.seen c.pipes.source).ended
+          (g.S.Source.seen c.drain_chunk.new.source).ended (g.S.Source.seen c.args.source.now).faults (g.S.Source.seen c.pipes.source).faults (g.S.Source.seen c.drain_chunk.new.source).faults
           (ends c.args.ends.now) (ends c.pipes.ends) c.args.items.now c.pipes.items c.drain_chunk.new.items (g.L.Ledger.number c.args.steps.now) (g.L.Ledger.number c.pipes.steps)
           (g.L.Ledger.number c.drain_chunk.new.steps) (c.pipes.invariant.way o there) next (ends c.drain_chunk.new.ends) (passed o there);
       later = omega (arith, c.pipes.invariant.later, c.drain_chunk.ensures.later);
@@ -124,13 +129,14 @@ returns-in_err-drain_chunk-clause-cause g c =
     let first = intake_seen c.args.intake.now in
     let now = intake_seen c.pipes.intake in
     let ends = ends_seen g.E.PipeEnd.seen in
-    let cause = of_first first now c.pipes.invariant.is (λ w. IsStepCause w now (source_seen g.S.Source.left g.S.Source.ended g.S.Source.faults c.pipes.source c.drain_chunk.new.source)
+    let cause = of_first first now c.pipes.invariant.is (λ w. IsStepCause w now (source_over g.S.Source.seen c.pipes.source c.drain_chunk.new.source)
     (ends_over g.E.PipeEnd.seen c.pipes.ends c.drain_chunk.new.ends)
     (decoding_seen c.pipes.items c.drain_chunk.new.items (g.L.Ledger.number c.pipes.steps) (g.L.Ledger.number c.drain_chunk.new.steps)) c.in_err-drain_chunk.field-0.0)
     c.in_err-drain_chunk.ensures.cause in
     rw (p.1, p.2) (λ o there.
-    stops (setting_in first o) first now (g.S.Source.left c.args.source.now) (g.S.Source.left c.pipes.source) (g.S.Source.left c.drain_chunk.new.source) (g.S.Source.ended c.pipes.source)
-    (g.S.Source.ended c.drain_chunk.new.source) (g.S.Source.faults c.args.source.now) (g.S.Source.faults c.pipes.source) (g.S.Source.faults c.drain_chunk.new.source)
+    stops (setting_in first o) first now (g.S.Source.seen c.args.source.now).left (g.S.Source.seen c.pipes.source).left (g.S.Source.seen c.drain_chunk.new.source).left
+    (g.S.Source.seen c.pipes.source).ended
+    (g.S.Source.seen c.drain_chunk.new.source).ended (g.S.Source.seen c.args.source.now).faults (g.S.Source.seen c.pipes.source).faults (g.S.Source.seen c.drain_chunk.new.source).faults
     (ends c.args.ends.now) (ends c.pipes.ends) c.args.items.now c.pipes.items c.drain_chunk.new.items (g.L.Ledger.number c.args.steps.now) (g.L.Ledger.number c.pipes.steps)
     (g.L.Ledger.number c.drain_chunk.new.steps) (c.pipes.invariant.way o there) (ends c.drain_chunk.new.ends) c.in_err-drain_chunk.field-0.0 c.pipes.invariant.later (cause o there))
 

@@ -1,6 +1,6 @@
 use Rattle.std.proofs.Common.{◌≡◌, ◌-◌, ◌+◌, Some, refl, sym, subst, arith}
 use Rattle.std.specs.List.{slice_get}
-use Rattle.nd_base.specs.Over.{count, source_seen}
+use Rattle.nd_base.specs.Over.{source_over}
 use Rattle.nd_types.specs.declared.types.Operation.{Operation}
 use Rattle.nd_value.specs.Tree.{node_count, trees}
 use Rattle.ndr_decoder_state.specs.declared.fault.DecodeFault.{DecodeFault}
@@ -25,21 +25,21 @@ returns-in_err-machine-clause-cause g c =
     handed_on
     (λ (e : DecodeFault). (o : Operation) → slice_get c.args.intake.now.plan.now.tie.operations c.args.intake.now.op ≡ Some o
     → IsChunkCause (setting_in (intake_seen c.args.intake.now) o) (intake_seen c.args.intake.now)
-    (idle_source (g.S.Source.left c.args.source.now) (g.S.Source.ended c.args.source.now) (count g.S.Source.faults c.args.source.now c.args.source.now))
+    (idle_source (g.S.Source.seen c.args.source.now).left (g.S.Source.seen c.args.source.now).ended (source_over g.S.Source.seen c.args.source.now c.args.source.now).faults)
     (idle_log c.args.items.now (g.L.Ledger.number c.args.steps.now)) e) c.from_residual.result c.in_err-machine.field-0.0 c.from_residual.ensures.1
     (subst (λ (e : DecodeFault). (o : Operation) → slice_get c.args.intake.now.plan.now.tie.operations c.args.intake.now.op ≡ Some o
     → IsChunkCause (setting_in (intake_seen c.args.intake.now) o) (intake_seen c.args.intake.now)
-    (idle_source (g.S.Source.left c.args.source.now) (g.S.Source.ended c.args.source.now) (count g.S.Source.faults c.args.source.now c.args.source.now))
+    (idle_source (g.S.Source.seen c.args.source.now).left (g.S.Source.seen c.args.source.now).ended (source_over g.S.Source.seen c.args.source.now c.args.source.now).faults)
     (idle_log c.args.items.now (g.L.Ledger.number c.args.steps.now)) e) (sym c.in_err-machine.ensures.memory)
-    (λ o there. nothing_read c.args.intake.now c.requires.ready c.requires.pipe o there (g.S.Source.left c.args.source.now) (g.S.Source.ended c.args.source.now)
-    (count g.S.Source.faults c.args.source.now c.args.source.now) c.args.items.now (g.L.Ledger.number c.args.steps.now)))
+    (λ o there. nothing_read c.args.intake.now c.requires.ready c.requires.pipe o there (g.S.Source.seen c.args.source.now).left (g.S.Source.seen c.args.source.now).ended
+    (source_over g.S.Source.seen c.args.source.now c.args.source.now).faults c.args.items.now (g.L.Ledger.number c.args.steps.now)))
 
 pub returns-in_err-count-clause-cause : goal.returns-in_err-count-clause-cause
 returns-in_err-count-clause-cause g c =
     handed_on
     (λ (e : DecodeFault). (o : Operation) → slice_get c.args.intake.now.plan.now.tie.operations c.args.intake.now.op ≡ Some o
     → IsChunkCause (setting_in (intake_seen c.args.intake.now) o) (intake_seen c.args.intake.now)
-    (source_seen g.S.Source.left g.S.Source.ended g.S.Source.faults c.args.source.now c.take_chunk.new.source)
+    (source_over g.S.Source.seen c.args.source.now c.take_chunk.new.source)
     (decoding_seen c.args.items.now c.take_chunk.new.items (g.L.Ledger.number c.args.steps.now)
     (g.L.Ledger.number c.take_chunk.new.steps)) e) c.from_residual-in_err-count.result c.in_err-count.field-0.0 c.from_residual-in_err-count.ensures.1
     (λ o there. c.in_err-count.ensures.takes
@@ -48,14 +48,14 @@ returns-in_err-count-clause-cause g c =
 pub pass_end-requires-clause-within : goal.pass_end-requires-clause-within
 pass_end-requires-clause-within g c = let (o, there) =
     operation_of c.args.intake.now c.requires.ready in
-    within_limit c.args.intake.now c.requires.ready c.requires.pipe o there (source_seen g.S.Source.left g.S.Source.ended g.S.Source.faults c.args.source.now c.take_chunk.new.source)
+    within_limit c.args.intake.now c.requires.ready c.requires.pipe o there (source_over g.S.Source.seen c.args.source.now c.take_chunk.new.source)
     (decoding_seen c.args.items.now c.take_chunk.new.items (g.L.Ledger.number c.args.steps.now) (g.L.Ledger.number c.take_chunk.new.steps)) c.take_chunk.new.machine c.in_ok-count.count
     (c.in_ok-count.ensures.takes
     (at_chunk c.args.intake.now c.requires.ready c.requires.pipe o there c.next_run-elem.result c.next_run-elem.ensures c.in_ok-machine.machine c.in_ok-machine.ensures.opened) refl)
 
 pub returns-then-count-eq0-clause-read : goal.returns-then-count-eq0-clause-read
 returns-then-count-eq0-clause-read g c o there =
-    ended c.args.intake.now c.requires.ready c.requires.pipe o there (source_seen g.S.Source.left g.S.Source.ended g.S.Source.faults c.args.source.now c.take_chunk.new.source)
+    ended c.args.intake.now c.requires.ready c.requires.pipe o there (source_over g.S.Source.seen c.args.source.now c.take_chunk.new.source)
     (decoding_seen c.args.items.now c.take_chunk.new.items (g.L.Ledger.number c.args.steps.now) (g.L.Ledger.number c.take_chunk.new.steps)) c.take_chunk.new.machine c.in_ok-count.count
     (c.in_ok-count.ensures.takes
     (at_chunk c.args.intake.now c.requires.ready c.requires.pipe o there c.next_run-elem.result c.next_run-elem.ensures c.in_ok-machine.machine c.in_ok-machine.ensures.opened) refl)
@@ -84,7 +84,7 @@ returns-in_err-vals-clause-cause g c =
     handed_on
     (λ (e : DecodeFault). (o : Operation) → slice_get c.args.intake.now.plan.now.tie.operations c.args.intake.now.op ≡ Some o
     → IsChunkCause (setting_in (intake_seen c.args.intake.now) o) (intake_seen c.args.intake.now)
-    (source_seen g.S.Source.left g.S.Source.ended g.S.Source.faults c.args.source.now c.take_chunk.new.source)
+    (source_over g.S.Source.seen c.args.source.now c.take_chunk.new.source)
     (decoding_seen c.args.items.now c.take_chunk.new.items (g.L.Ledger.number c.args.steps.now)
     (g.L.Ledger.number c.take_chunk.new.steps)) e) c.from_residual-in_err-vals.result fault.Memory c.from_residual-in_err-vals.ensures.1
     (λ o there. let x =
@@ -100,7 +100,7 @@ overflow_sub-nodes g c = let (o, there) = operation_of c.args.intake.now c.requi
 pub pass_elements-requires-clause-within : goal.pass_elements-requires-clause-within
 pass_elements-requires-clause-within g c = let (o, there) =
     operation_of c.args.intake.now c.requires.ready in
-    within_limit c.args.intake.now c.requires.ready c.requires.pipe o there (source_seen g.S.Source.left g.S.Source.ended g.S.Source.faults c.args.source.now c.take_chunk.new.source)
+    within_limit c.args.intake.now c.requires.ready c.requires.pipe o there (source_over g.S.Source.seen c.args.source.now c.take_chunk.new.source)
     (decoding_seen c.args.items.now c.take_chunk.new.items (g.L.Ledger.number c.args.steps.now) (g.L.Ledger.number c.take_chunk.new.steps)) c.take_chunk.new.machine c.in_ok-count.count
     (c.in_ok-count.ensures.takes
     (at_chunk c.args.intake.now c.requires.ready c.requires.pipe o there c.next_run-elem.result c.next_run-elem.ensures c.in_ok-machine.machine c.in_ok-machine.ensures.opened) refl)
@@ -108,7 +108,7 @@ pass_elements-requires-clause-within g c = let (o, there) =
 pub pass_elements-requires-clause-few : goal.pass_elements-requires-clause-few
 pass_elements-requires-clause-few g c = let (o, there) =
     operation_of c.args.intake.now c.requires.ready in
-    few_after c.args.intake.now c.requires.ready c.requires.pipe o there (source_seen g.S.Source.left g.S.Source.ended g.S.Source.faults c.args.source.now c.take_chunk.new.source)
+    few_after c.args.intake.now c.requires.ready c.requires.pipe o there (source_over g.S.Source.seen c.args.source.now c.take_chunk.new.source)
     (decoding_seen c.args.items.now c.take_chunk.new.items (g.L.Ledger.number c.args.steps.now) (g.L.Ledger.number c.take_chunk.new.steps)) c.take_chunk.new.machine c.in_ok-count.count
     (c.in_ok-count.ensures.takes
     (at_chunk c.args.intake.now c.requires.ready c.requires.pipe o there c.next_run-elem.result c.next_run-elem.ensures c.in_ok-machine.machine c.in_ok-machine.ensures.opened) refl)
@@ -118,7 +118,7 @@ pub returns-clause-read : goal.returns-clause-read
 returns-clause-read g c o there =
     let x = (c.in_ok-count.ensures.takes
     (at_chunk c.args.intake.now c.requires.ready c.requires.pipe o there c.next_run-elem.result c.next_run-elem.ensures c.in_ok-machine.machine c.in_ok-machine.ensures.opened) refl) in
-    answered c.args.intake.now c.requires.ready c.requires.pipe o there (source_seen g.S.Source.left g.S.Source.ended g.S.Source.faults c.args.source.now c.take_chunk.new.source)
+    answered c.args.intake.now c.requires.ready c.requires.pipe o there (source_over g.S.Source.seen c.args.source.now c.take_chunk.new.source)
     (decoding_seen c.args.items.now c.take_chunk.new.items (g.L.Ledger.number c.args.steps.now) (g.L.Ledger.number c.take_chunk.new.steps)) c.take_chunk.new.machine c.in_ok-count.count
     (c.in_ok-count.ensures.takes
     (at_chunk c.args.intake.now c.requires.ready c.requires.pipe o there c.next_run-elem.result c.next_run-elem.ensures c.in_ok-machine.machine c.in_ok-machine.ensures.opened) refl)

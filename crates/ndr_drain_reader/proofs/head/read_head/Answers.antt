@@ -1,6 +1,6 @@
 use Rattle.std.proofs.Common.{◌≡◌, Some, refl, ap, ◌∙◌, length, option_map, arith}
 use Rattle.std.specs.List.{slice_get}
-use Rattle.nd_base.specs.Over.{source_seen}
+use Rattle.nd_base.specs.Over.{source_over}
 use Rattle.nd_types.specs.declared.types.Operation.{Operation}
 use Rattle.nd_lemmas.proofs.Lists.{item_at}
 use Rattle.nd_value.specs.Fitting.{setting_beside}
@@ -28,7 +28,7 @@ returns-in_err-read_values-clause-cause g c =
     let k = i.order in
     let x = c.begin-stream.result in
     let y = c.read_values.new.stream in
-    let a = source_seen g.S.Source.left g.S.Source.ended g.S.Source.faults c.args.source.now c.read_values.new.source in
+    let a = source_over g.S.Source.seen c.args.source.now c.read_values.new.source in
     let t = decoding_seen c.args.items.now c.read_values.new.items (g.L.Ledger.number c.args.steps.now) (g.L.Ledger.number c.read_values.new.steps) in
     call.handed_on
     (λ e. (o : Operation) → slice_get p.tie.operations n ≡ Some o
@@ -47,7 +47,7 @@ with_pipes-requires g c =
     let k = i.order in
     let x = c.begin-stream.result in
     let y = c.read_values.new.stream in
-    let a = source_seen g.S.Source.left g.S.Source.ended g.S.Source.faults c.args.source.now c.read_values.new.source in
+    let a = source_over g.S.Source.seen c.args.source.now c.read_values.new.source in
     let t = decoding_seen c.args.items.now c.read_values.new.items (g.L.Ledger.number c.args.steps.now) (g.L.Ledger.number c.read_values.new.steps) in
     let (o, there) = item_at p.tie.operations n c.requires.ready.known in
     let r = c.in_ok-read_values.ensures.reads (setting_beside p.tie o s q) (call.legal p n s q o there k) (call.setting p n s q o there k) refl in
@@ -63,7 +63,7 @@ returns-in_err-kept-clause-cause g c =
     let k = i.order in
     let x = c.begin-stream.result in
     let y = c.read_values.new.stream in
-    let a = source_seen g.S.Source.left g.S.Source.ended g.S.Source.faults c.args.source.now c.read_values.new.source in
+    let a = source_over g.S.Source.seen c.args.source.now c.read_values.new.source in
     let t = decoding_seen c.args.items.now c.read_values.new.items (g.L.Ledger.number c.args.steps.now) (g.L.Ledger.number c.read_values.new.steps) in
     call.handed_on
     (λ e. (o : Operation) → slice_get p.tie.operations n ≡ Some o
@@ -83,7 +83,7 @@ returns-clause-read g c o there =
     let k = i.order in
     let x = c.begin-stream.result in
     let y = c.read_values.new.stream in
-    let a = source_seen g.S.Source.left g.S.Source.ended g.S.Source.faults c.args.source.now c.read_values.new.source in
+    let a = source_over g.S.Source.seen c.args.source.now c.read_values.new.source in
     let t = decoding_seen c.args.items.now c.read_values.new.items (g.L.Ledger.number c.args.steps.now) (g.L.Ledger.number c.read_values.new.steps) in
     let w = setting_beside p.tie o s q in
     let legal = call.legal p n s q o there k in
@@ -103,7 +103,7 @@ returns-clause-beside g c =
     let k = i.order in
     let x = c.begin-stream.result in
     let y = c.read_values.new.stream in
-    let a = source_seen g.S.Source.left g.S.Source.ended g.S.Source.faults c.args.source.now c.read_values.new.source in
+    let a = source_over g.S.Source.seen c.args.source.now c.read_values.new.source in
     let t = decoding_seen c.args.items.now c.read_values.new.items (g.L.Ledger.number c.args.steps.now) (g.L.Ledger.number c.read_values.new.steps) in
     let purpose = call.built_for p n s q c.again.result x y c.begin-builder.result c.in_ok-read_values.ensures.same c.begin-stream.ensures.builder c.begin-builder.ensures c.again.ensures in
     ap (λ (u : Purpose). u.given) (c.in_ok-kept.ensures.same ∙ purpose)
@@ -118,7 +118,7 @@ returns-clause-ready g c =
     let k = i.order in
     let x = c.begin-stream.result in
     let y = c.read_values.new.stream in
-    let a = source_seen g.S.Source.left g.S.Source.ended g.S.Source.faults c.args.source.now c.read_values.new.source in
+    let a = source_over g.S.Source.seen c.args.source.now c.read_values.new.source in
     let t = decoding_seen c.args.items.now c.read_values.new.items (g.L.Ledger.number c.args.steps.now) (g.L.Ledger.number c.read_values.new.steps) in
     let (o, there) = item_at p.tie.operations n c.requires.ready.known in
     let w = setting_beside p.tie o s q in

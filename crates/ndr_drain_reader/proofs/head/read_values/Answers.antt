@@ -1,5 +1,5 @@
 use Rattle.std.proofs.Common.{◌≡◌, None, Err, sym, subst, drop, option_map}
-use Rattle.nd_base.specs.Over.{source_seen}
+use Rattle.nd_base.specs.Over.{source_over}
 use Rattle.nd_lemmas.proofs.Lists.{item_at}
 use Rattle.nd_value.specs.Fitting.{setting_beside}
 use Rattle.ndr_decoder_value.specs.Parts.{IsTried}
@@ -13,7 +13,7 @@ use Rattle.ndr_drain_reader.proofs.head.read_values.Goals as goal
 
 pub returns-in_err-found-clause-reads : goal.returns-in_err-found-clause-reads
 returns-in_err-found-clause-reads g c w legal is beside =
-    let a = source_seen g.S.Source.left g.S.Source.ended g.S.Source.faults c.args.source.now c.read_roots.new.source in
+    let a = source_over g.S.Source.seen c.args.source.now c.read_roots.new.source in
     let s = decoding_seen c.args.items.now c.read_roots.new.items (g.L.Ledger.number c.args.steps.now) (g.L.Ledger.number c.read_roots.new.steps) in
     handed w legal c.args.order (cells_of c.args.stream.now) a s _ c.from_residual.result c.in_err-found.field-0.0 c.from_residual.ensures.1 (c.in_err-found.ensures.reads w legal is)
 
@@ -24,7 +24,7 @@ try_parameters-requires g c =
     let w = setting_beside p.tie o c.args.side None in
     let legal = call.legal p c.args.op c.args.side None o there c.args.order in
     let is = call.setting p c.args.op c.args.side None o there c.args.order in
-    let a = source_seen g.S.Source.left g.S.Source.ended g.S.Source.faults c.args.source.now c.read_roots.new.source in
+    let a = source_over g.S.Source.seen c.args.source.now c.read_roots.new.source in
     let s = decoding_seen c.args.items.now c.read_roots.new.items (g.L.Ledger.number c.args.steps.now) (g.L.Ledger.number c.read_roots.new.steps) in
     record { numbers = numbers_keepable p c.args.op c.args.side c.args.order w legal is c.args.stream.now a s c.read_roots.new.stream (c.in_ok-found.ensures.reads w legal is) }
 
@@ -32,7 +32,7 @@ pub returns-in_err-try_parameters-clause-reads : goal.returns-in_err-try_paramet
 returns-in_err-try_parameters-clause-reads g c w legal is beside =
     let p = c.args.plan.now in
     let y = c.read_roots.new.stream in
-    let a = source_seen g.S.Source.left g.S.Source.ended g.S.Source.faults c.args.source.now c.read_roots.new.source in
+    let a = source_over g.S.Source.seen c.args.source.now c.read_roots.new.source in
     let s = decoding_seen c.args.items.now c.read_roots.new.items (g.L.Ledger.number c.args.steps.now) (g.L.Ledger.number c.read_roots.new.steps) in
     let at = c.in_ok-found.found.checks in
     let e = c.in_err-try_parameters.field-0.0 in
@@ -45,7 +45,7 @@ pub returns-clause-reads : goal.returns-clause-reads
 returns-clause-reads g c w legal is beside =
     let p = c.args.plan.now in
     let y = c.read_roots.new.stream in
-    let a = source_seen g.S.Source.left g.S.Source.ended g.S.Source.faults c.args.source.now c.read_roots.new.source in
+    let a = source_over g.S.Source.seen c.args.source.now c.read_roots.new.source in
     let s = decoding_seen c.args.items.now c.read_roots.new.items (g.L.Ledger.number c.args.steps.now) (g.L.Ledger.number c.read_roots.new.steps) in
     let went = c.in_ok-found.ensures.reads w legal is in
     let at = c.in_ok-found.found.checks in

@@ -1,5 +1,5 @@
 use Rattle.std.proofs.Common.{Err, refl, option_map}
-use Rattle.nd_base.specs.Over.{source_seen}
+use Rattle.nd_base.specs.Over.{source_over}
 use Rattle.nd_lemmas.proofs.Lists.{item_at}
 use Rattle.nd_value.specs.Fitting.{setting_beside}
 use Rattle.ndr_decoder_state.specs.declared.fault.DecodeFault.TheVariants.{ReadFault}
@@ -13,6 +13,6 @@ returns-in-Err-clause-read_fault g c is =
     let i = c.args.self.now in
     let (o, there) = item_at i.plan.now.tie.operations i.op c.requires.ready.known in
     risen (setting_beside i.plan.now.tie o i.side (option_map (λ f. f.now.graph) c.args.given)) i.order
-    (source_seen g.S.Source.left g.S.Source.ended g.S.Source.faults c.args.source.now c.read_head.new.source)
+    (source_over g.S.Source.seen c.args.source.now c.read_head.new.source)
     (decoding_seen c.args.items.now c.read_head.new.items (g.L.Ledger.number c.args.steps.now) (g.L.Ledger.number c.read_head.new.steps)) c.in-Err.fault
     (same_fault (Err c.in-Err.fault) c.in-Err.fault ReadFault refl is) (c.in-Err.ensures.cause o there)
