@@ -6,7 +6,7 @@
 - crates.txt has floors, `# N. heading` in order, and a line `# what it has` before each crate. A crate uses only crates that come before it:
   those of lower floors, and those above it on its own floor. Each crate is a folder of crates/, and each folder a crate.
 - No crate's former name appears in any file.
-- No line of src/ or specs/ is over 150 characters, none of proofs/ over 200. The crates of LONG_LINES have some that are: no more than their number.
+- No line of src/ or specs/ is over 150 characters, none of proofs/ over 200.
 - No file of specs/ imports another crate's proofs/.
 """
 
@@ -17,13 +17,12 @@ import subprocess
 import sys
 from dataclasses import dataclass
 from pathlib import Path
-from typing import Dict, Iterator, List, Tuple
+from typing import Iterator, List, Tuple
 
 sys.dont_write_bytecode = True
 
 ROOT = Path(__file__).resolve().parent.parent
 LONGEST = {"src": 150, "specs": 150, "proofs": 200}
-LONG_LINES = {"idl_declarations": 2, "idl_tokens": 4, "idl_grammar": 1, "idl_parser": 1, "idl_scope": 1, "command_compile": 3}
 FLOOR = re.compile(r"# (\d+)\. \S.*")
 CRATE = re.compile(r"(?P<name>\w+)[^:#]*:(?P<uses>[^#]*)")
 
@@ -112,20 +111,13 @@ def faults_of_names(path: Path, text: str) -> Iterator[str]:
             yield f"{path}:{number}: {found} is the former name of a crate"
 
 
-def long_lines(path: Path, text: str) -> Iterator[str]:
+def faults_of_lines(path: Path, text: str) -> Iterator[str]:
     """The lines of a file of a crate that are too long."""
     parts = path.parts
     most = LONGEST.get(parts[2]) if len(parts) > 3 and parts[0] == "crates" and path.suffix in (".rt", ".antt") else None
     for number, line in enumerate(text.splitlines(), 1) if most else ():
         if len(line) > most:
             yield f"{path}:{number}: {len(line)} characters, more than {most}"
-
-
-def faults_of_lines(found: Dict[str, List[str]]) -> Iterator[str]:
-    """The lines that are too long, by crate, where these are more than the crate may have."""
-    for crate, lines in found.items():
-        if len(lines) > LONG_LINES.get(crate, 0):
-            yield from lines
 
 
 def faults_of_imports(path: Path, text: str) -> Iterator[str]:
@@ -138,13 +130,10 @@ def faults_of_imports(path: Path, text: str) -> Iterator[str]:
 
 def faults(root: Path = ROOT) -> List[str]:
     """What is wrong with the layout, a line each."""
-    wrong, long = faults_of_floors(root), {}
+    wrong = faults_of_floors(root)
     for path, text in texts(root):
-        for find in (faults_of_names, faults_of_imports):
+        for find in (faults_of_names, faults_of_lines, faults_of_imports):
             wrong += find(path, text)
-        for line in long_lines(path, text):
-            long.setdefault(path.parts[1], []).append(line)
-    wrong += faults_of_lines(long)
     return wrong
 
 

@@ -17,8 +17,8 @@ use Rattle.command_refusals.specs.declared.refusal.Refusal.TheVariants.{Memory}
 use Rattle.command_compile.specs.Idl.{main_file, IsMainFault, IsNameFault, IsDueImport, by_names, reported_fault, name_in, IsDueAfter, IsIdlFault, Means, AreResolved}
 use Rattle.idl_lexer.specs.declared.tokens.LexFault.TheVariants as lexical
 use Rattle.nd_base.specs.Over.{IsContent, IsMissing, Rose, FilesOver, HasRisen}
-use Rattle.command_refusals.specs.declared.refusal.Refusal.TheVariants.{Absent, FileFailed, BadIdl, NoOperation, ReadFault, BadOctets, BadText, BadValue, TooLong, BadRequest, BadLabel, ShortLabel, TooFewEnds, EndFailed}
-use Rattle.command_refusals.specs.declared.refusal.Refusal.TheVariants.{BadPdu, NotCompatible, BadScript, LongScript}
+use Rattle.command_refusals.specs.declared.refusal.Refusal.TheVariants.{Absent, FileFailed, BadIdl, NoOperation, ReadFault, BadOctets, BadText, BadValue, TooLong, BadRequest}
+use Rattle.command_refusals.specs.declared.refusal.Refusal.TheVariants.{BadLabel, ShortLabel, TooFewEnds, EndFailed, BadPdu, NotCompatible, BadScript, LongScript}
 use Rattle.nd_base.proofs.Rising.{rose_later}
 use Rattle.command_compile.specs.Compiled.{IsTextCause, IsIdlCause, AreAsked, AsksFiles, all_due, IsCompiled}
 use Rattle.command_compile.proofs.Walks.{walk_absent, walk_failed, last_source}

@@ -18,3 +18,6 @@ pub load_fails : (place : Place) (e : Ending) → has_memory e ≡ true → (w :
     → e ≡ Stopped (source (codes "a.idl") [] ∷ []) (fault.Failed 0)
 load_fails place e h w f =
     one_told_ending (λ name. None) (λ name. true) h refl w (walk.failed (start []) place (codes "a.idl") [] (record { new = refl; room = omega arith })) f refl
+
+-- what the law of the walks that end names
+pub ruleset one_import = (nothing_held, load_fails)

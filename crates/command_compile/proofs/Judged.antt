@@ -20,8 +20,8 @@ use Rattle.nd_base.specs.Text.{position_of}
 use Rattle.command_refusals.specs.declared.refusal.IdlReason.{IdlReason}
 use Rattle.command_refusals.specs.declared.refusal.IdlReason.TheVariants as reason
 use Rattle.command_refusals.specs.declared.refusal.Refusal.{Refusal}
-use Rattle.command_refusals.specs.declared.refusal.Refusal.TheVariants.{Memory, Absent, FileFailed, BadIdl, NoOperation, ReadFault, BadOctets, BadText, BadValue, TooLong, BadRequest, BadLabel, ShortLabel, TooFewEnds, EndFailed}
-use Rattle.command_refusals.specs.declared.refusal.Refusal.TheVariants.{BadPdu, NotCompatible, BadScript, LongScript}
+use Rattle.command_refusals.specs.declared.refusal.Refusal.TheVariants.{Memory, Absent, FileFailed, BadIdl, NoOperation, ReadFault, BadOctets, BadText, BadValue, TooLong, BadRequest}
+use Rattle.command_refusals.specs.declared.refusal.Refusal.TheVariants.{BadLabel, ShortLabel, TooFewEnds, EndFailed, BadPdu, NotCompatible, BadScript, LongScript}
 use Rattle.command_compile.specs.Idl.{AcfFile, IsBeside, tree_beside, AreResolved, Means, resolved_world, IsBroken, by_acf, by_rules, reported_by, reported_rule, reported_beside, word_at, IsAcfFault}
 use Rattle.command_compile.specs.Compiled.{IsTextCause}
 use Rattle.command_refusals.specs.Loads.{IsLoadCause}

@@ -39,7 +39,7 @@ pub fn texts_are_read()
 /// A walk over files ends in some way other than by running out of memory or by a failed load, whatever is due and whatever files hold. Where it is
 /// known which loads fail, it ends in some way other than by running out of memory, by a failed load where it comes to one. Where no file is held, a
 /// walk that comes to an import ends as absent there. `idl_names: walks_have_one_ending` says that a walk ends in one such way alone.
-#[tactic(auto, using(crate::proofs::Ends::each_walk, crate::proofs::Ends::each_told_walk, crate::proofs::Instances::nothing_held, crate::proofs::Instances::load_fails))]
+#[tactic(auto, using(crate::proofs::Ends::each_walk, crate::proofs::Ends::each_told_walk, crate::proofs::Instances::one_import))]
 pub fn walks_end()
     ensures ends { (held : Option (List ℕ → Option (List ℕ))) (s : State) (dues : List Due) → HasEnding held s dues }
     ensures told { (held : Option (List ℕ → Option (List ℕ))) (fails : List ℕ → Bool) (s : State) (dues : List Due)

@@ -94,7 +94,7 @@ static VARIABLE_WORDS: [u8; 6] = [
 ];
 
 /// The class of a pointer.
-#[tactic(auto, using(idl_tokens::proofs::Basics::one_of_found, idl_tokens::proofs::Basics::one_of_none, idl_tokens::proofs::Basics::found_within), unfolding(idl_grammar::specs::Reading::pointer_class_read))]
+#[tactic(auto, using(idl_tokens::proofs::Basics::words_read), unfolding(idl_grammar::specs::Reading::pointer_class_read))]
 fn pointer_class(parser: &Parser<'_>, at: usize) -> Result<(PointerClass, usize), Refusal>
     requires { at ≤ length parser.now }
     ensures gives { Gives (λ x. x) result (pointer_class_read parser.now at) }
@@ -107,7 +107,7 @@ fn pointer_class(parser: &Parser<'_>, at: usize) -> Result<(PointerClass, usize)
 }
 
 /// The word of an attribute that names a variable.
-#[tactic(auto, using(idl_tokens::proofs::Basics::one_of_found, idl_tokens::proofs::Basics::one_of_none, idl_tokens::proofs::Basics::found_within), unfolding(idl_grammar::specs::Reading::variable_word_read))]
+#[tactic(auto, using(idl_tokens::proofs::Basics::words_read), unfolding(idl_grammar::specs::Reading::variable_word_read))]
 fn variable_word(parser: &Parser<'_>, at: usize) -> Result<(VariableWord, usize), Refusal>
     requires { at ≤ length parser.now }
     ensures gives { Gives (λ x. x) result (variable_word_read parser.now at) }

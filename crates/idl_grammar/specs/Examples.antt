@@ -1,5 +1,5 @@
 -- Texts and what is answered on their tokens.
-use Rattle.std.specs.Prelude.{ℕ, true, false, List, [], ◌∷◌, Some, None, codes}
+use Rattle.std.specs.Prelude.{ℕ, true, false, List, [], ◌∷◌, ◌++◌, Some, None, codes}
 use Rattle.idl_lexer.specs.declared.tokens.TokenKind.{TokenKind}
 use Rattle.idl_lexer.specs.declared.tokens.TokenKind.TheVariants as token
 use Rattle.idl_lexer.specs.declared.tokens.Token.{Token}
@@ -25,7 +25,12 @@ spelled_at at octets = record { at = at; octets = octets }
 -- a file with one or two declarations of each form
 abbrev pub small_file : Lexed
 small_file = record {
-  text = codes "[uuid(00112233-4455-6677-8899-aabbccddeeff), version(1.0), pointer_default(ptr)] interface a {   import \"b.idl\";   const long N = 2 + 3 * 4;   typedef enum { X, Y = 'y' } e;   typedef [string] char *text[];   struct s { long n; [size_is(n)] unsigned small data[*]; };   typedef union switch (e k) u { case 1: default: byte b; case X: ; } v;   hyper int f(void);   void put([in] handle_t h, [out, ref] long *p); }";
+  text =
+      codes "[uuid(00112233-4455-6677-8899-aabbccddeeff), version(1.0), pointer_default(ptr)] interface a {   import \"b.idl\";   "
+      ++ codes "const long N = 2 + 3 * 4;   typedef enum { X, Y = 'y' } e;   typedef [string] char *text[];   "
+      ++ codes "struct s { long n; [size_is(n)] unsigned small data[*]; };   "
+      ++ codes "typedef union switch (e k) u { case 1: default: byte b; case X: ; } v;   hyper int f(void);   "
+      ++ codes "void put([in] handle_t h, [out, ref] long *p); }";
   tokens =
       piece token.Mark 0 1 ∷ piece token.Word 1 5 ∷ piece token.Mark 5 6 ∷ piece token.Uuid 6 42 ∷ piece token.Mark 42 43 ∷ piece token.Mark 43 44 ∷
       piece token.Word 45 52 ∷ piece token.Mark 52 53 ∷ piece token.Number 53 54 ∷ piece token.Mark 54 55 ∷ piece token.Number 55 56 ∷

@@ -6,6 +6,7 @@ use Rattle.idl_grammar.specs.Symbols as symbol
 use Rattle.idl_grammar.specs.Tree as tree
 use Rattle.idl_grammar.specs.Tree.{TypeSpec}
 use Rattle.idl_grammar.specs.ReadExpressions.{placed_read, ident_read}
+use Rattle.idl_grammar.proofs.Rows.{cases_are, arms_are}
 use Rattle.idl_grammar.specs.Reading.{branch_read, bind_read, simple_firsts, simple_read, struct_read, union_read, enum_read, type_read}
 
 -- a type, inside whose brackets another function reads types
@@ -23,3 +24,6 @@ type_body nesting t depth again i =
 pub type_is : (f nesting : ℕ) (t : Text) (depth i : ℕ) → 0 < f → type_read f nesting t depth i ≡ type_body nesting t depth (type_read (f - 1) nesting t (depth + 1)) i
 type_is zero nesting t depth i h = absurd (omega (arith, h))
 type_is (suc f) nesting t depth i h = let e : suc f - 1 ≡ f = omega arith in ap (λ (g : ℕ). type_body nesting t depth (type_read g nesting t (depth + 1)) i) (sym e)
+
+-- what the function that reads a union's body names
+pub ruleset unions = (cases_are, arms_are)

@@ -259,7 +259,7 @@ fn tagged_union(
 
 /// The body of a union, after its tag where it has one.
 #[cycle(types)]
-#[tactic(auto, using(idl_grammar::proofs::Rows::cases_are, idl_grammar::proofs::Rows::arms_are), unfolding(idl_grammar::specs::Reading::union_body_read))]
+#[tactic(auto, using(crate::proofs::TypeReading::unions), unfolding(idl_grammar::specs::Reading::union_body_read))]
 fn union_body(
     parser: &Parser<'_>,
     fuel: usize,

@@ -224,3 +224,6 @@ same_bits (pos a) (pos b) same = ap pos (same_from_bits a b same)
 same_bits (pos a) (negsuc b) same = absurd (apart a b same)
 same_bits (negsuc a) (pos b) same = absurd (apart b a (λ k. sym (same k)))
 same_bits (negsuc a) (negsuc b) same = ap negsuc (same_from_bits a b (λ k. omega (arith, same k, bit_at-lt a k, bit_at-lt b k)))
+
+-- what the law of the operators on bits names
+pub ruleset bitwise = (bit_of_complement, bit_of_both, bit_of_either, bit_of_one, same_bits)

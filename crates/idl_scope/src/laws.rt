@@ -9,7 +9,7 @@ ghost use Rattle.idl_scope.specs.declared.meaning.Meaning.{Meaning};
 
 /// The operators on bits work on two's complement of unlimited width, bit by bit, and meanings with the same bits are
 /// the same.
-#[tactic(auto, using(crate::proofs::Bits::bit_of_complement, crate::proofs::Bits::bit_of_both, crate::proofs::Bits::bit_of_either, crate::proofs::Bits::bit_of_one, crate::proofs::Bits::same_bits))]
+#[tactic(auto, using(crate::proofs::Bits::bitwise))]
 pub fn bits_are_those_of_twos_complement()
     ensures complement { (a : ℤ) (k : ℕ) → bit (complement a) k ≡ 1 - bit a k }
     ensures both { (a b : ℤ) (k : ℕ) → bit (bits_in_both a b) k ≡ min (bit a k) (bit b k) }

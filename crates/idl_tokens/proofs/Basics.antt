@@ -2,7 +2,8 @@
 use Rattle.std.proofs.Common.{◌≡◌, ℕ, ◌+◌, ◌<◌, Bool, true, false, ◌||◌, cond, eqb, length, refl, ap, ◌∙◌, List, [], ◌∷◌, Ok, Err, Option, Some, None}
 use Rattle.idl_grammar.specs.Text.{Text, symbol_at, is_in, no_words}
 use Rattle.idl_grammar.specs.ReadPhrases.{Syntax}
-use Rattle.idl_grammar.proofs.Within.{test_within}
+use Rattle.idl_grammar.proofs.Within.{test_within, mark_within}
+pub use Rattle.idl_grammar.specs.ReadExpressions.{is_operand, operand_of}
 use Rattle.idl_grammar.proofs.Sequences.{disjoint, apart}
 use Rattle.idl_grammar.specs.Expressions.{Meant, names, symbols_of, value_of}
 use Rattle.idl_grammar.specs.Reading.{one_of_read}
@@ -48,3 +49,9 @@ one_of_none o list t i h =
 
 pub found_within : {A : Type 0} (list : List (Meant A)) (t : Text) (i : ℕ) (v : A) → is_in (symbols_of list) 0 ≡ false → found list (symbol_at t i) ≡ Some v → i < length t
 found_within list t i v real h = test_within t i (λ s. is_in (symbols_of list) s) real (is_found v list (symbol_at t i) v h).0
+
+-- what a function that reads a word that stands for a value names
+pub ruleset words_read = (one_of_found, one_of_none, found_within)
+
+-- what the function that reads an operand names
+pub ruleset operands = (name_within, mark_within)

@@ -124,6 +124,11 @@ module _ (n start : ℕ) (t : Text) (i : ℕ) where
         ∙ (ap (λ (b : Bool). cond b (Err (Passes Depth i)) (Ok (((lexeme_at t i).at, binary_of (symbol_at t i)), i + 1))) few
         ∙ ap (λ (u : BinaryOperator). Ok (((lexeme_at t i).at, u), i + 1)) (binary_is (symbol_at t i) o h))
 
+-- what the functions that read an operator name
+pub ruleset unary_signs = (unary_sign_is, unary_sign_full, unary_sign_none, unary_within)
+
+pub ruleset binary_signs = (binary_sign_is, binary_sign_full, binary_sign_other, binary_sign_none, binary_within)
+
 -- ## counting
 
 pub none_before : (t : Text) (start i : ℕ) → i ≤ start → operators t start i ≡ 0

@@ -31,7 +31,7 @@ pub(crate) struct Branches {
 }
 
 /// A number, a character, a name, `TRUE` or `FALSE`.
-#[tactic(auto, using(crate::proofs::Basics::name_within, idl_grammar::proofs::Within::mark_within), unfolding(idl_grammar::specs::ReadExpressions::is_operand, idl_grammar::specs::ReadExpressions::operand_of))]
+#[tactic(auto, using(crate::proofs::Basics::operands), unfolding(crate::proofs::Basics::is_operand, crate::proofs::Basics::operand_of))]
 fn operand(parser: &Parser<'_>, inside: bool, at: usize) -> Result<(Operand, usize), Refusal>
     requires within { at ≤ length parser.now }
     ensures gives { Gives (λ x. x) result (leaf_read inside parser.now at) }

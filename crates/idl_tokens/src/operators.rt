@@ -124,7 +124,7 @@ fn is_full(parser: &Parser<'_>, start: usize, at: usize) -> bool
 }
 
 /// A unary operator of the expression that begins at `start`, and its octet.
-#[tactic(auto, using(crate::proofs::Signs::unary_sign_is, crate::proofs::Signs::unary_sign_full, crate::proofs::Signs::unary_sign_none, crate::proofs::Signs::unary_within))]
+#[tactic(auto, using(crate::proofs::Signs::unary_signs))]
 pub(crate) fn unary_sign(
     parser: &Parser<'_>,
     start: usize,
@@ -145,7 +145,7 @@ pub(crate) fn unary_sign(
 }
 
 /// A binary operator of a level of the expression that begins at `start`, and its octet.
-#[tactic(auto, using(crate::proofs::Signs::binary_sign_is, crate::proofs::Signs::binary_sign_full, crate::proofs::Signs::binary_sign_other, crate::proofs::Signs::binary_sign_none, crate::proofs::Signs::binary_within))]
+#[tactic(auto, using(crate::proofs::Signs::binary_signs))]
 pub(crate) fn binary_sign(
     parser: &Parser<'_>,
     wanted: usize,

@@ -73,7 +73,7 @@ impl Parser<'_> {
     }
 
     /// A width, as `small`, `short`, `long` or `hyper`.
-    #[tactic(auto, using(crate::proofs::Basics::one_of_found, crate::proofs::Basics::one_of_none, crate::proofs::Basics::found_within), unfolding(idl_grammar::specs::Reading::width_read))]
+    #[tactic(auto, using(crate::proofs::Basics::words_read), unfolding(idl_grammar::specs::Reading::width_read))]
     fn width(&self, at: usize) -> Result<(Width, usize), Refusal>
         requires { at ≤ length self.now }
         ensures gives { Gives (λ x. x) result (width_read self.now at) }
@@ -121,7 +121,7 @@ impl Parser<'_> {
     }
 
     /// A type of one word.
-    #[tactic(auto, using(crate::proofs::Basics::one_of_found, crate::proofs::Basics::one_of_none, crate::proofs::Basics::found_within))]
+    #[tactic(auto, using(crate::proofs::Basics::words_read))]
     fn simple_word(&self, at: usize) -> Result<(SimpleType, usize), Refusal>
         requires { at ≤ length self.now }
         ensures gives { Gives (λ x. x) result (one_of_read types.Boolean simple_words self.now at) }
