@@ -33,10 +33,11 @@ impl Default for Frame {
     }
 }
 
-/// The frames of a run, at most 256. Contracts see them as a list, the innermost first.
+/// The frames of a run, at most 36: types nest at most 32 deep, and a run needs at most three frames more. The room for all of them is cleared when
+/// it is made, so there is little of it. Contracts see them as a list, the innermost first.
 #[derive(Drop)]
 pub struct Frames {
-    frames: ArrayVec<Frame, 256>,
+    frames: ArrayVec<Frame, 36>,
 }
 
 impl Model for Frames {
@@ -58,7 +59,7 @@ impl Frames {
         }
     }
 
-    /// One frame more. Where there are 256 already nothing changes. Takes no memory.
+    /// One frame more. Where there are 36 already nothing changes. Takes no memory.
     pub fn push(&mut self, frame: Frame)
         ensures { self.new ≡ pushed frame self.old }
     {

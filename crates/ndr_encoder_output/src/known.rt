@@ -3,7 +3,7 @@ ghost use Rattle.std.specs.Prelude.{◌≡◌, List, IfSome};
 ghost use Rattle.ndr_code.specs.declared.instr.Instr.{Instr as Instruction};
 ghost use Rattle.ndr_encoder_output.specs.Structs.{IsRight, IsStructRun, AreKnown};
 
-use crate::members::{StructRun, struct_of};
+use crate::members::{StructRun, begins_struct, struct_of};
 use ndr_code::Instr;
 
 /// The address of a run, and the struct that it is known to be, if it is one.
@@ -45,7 +45,7 @@ impl Known {
         }
     }
 
-    /// Looks at the run at an address, unless it was looked at last in its slot. Takes no memory.
+    /// Looks at the run at an address, unless it was looked at last in its slot, or does not begin as a struct does. Takes no memory.
     #[inline(always)]
     pub fn learn(&mut self, code: &[Instr], start: u32)
         requires { AreKnown code.now self.old }
@@ -53,6 +53,9 @@ impl Known {
     {
         let at = (start % SLOTS) as usize;
         if self.slots[at].start == start {
+            return;
+        }
+        if !begins_struct(code, start) {
             return;
         }
         self.slots[at] = slot_of(code, start);

@@ -170,6 +170,23 @@ fn is_record(code: &[Instr], at: usize) -> bool
     }
 }
 
+// Whether the node of a struct is at an address; a clause does not say so, as no more is needed of it than that it saves following a run.
+#[inline(always)]
+fn is_node(code: &[Instr], at: usize) -> bool {
+    match code.get(at) {
+        Some(Instr::Record { .. }) => true,
+        _ => false,
+    }
+}
+
+/// Whether the run at an address may be that of a struct: its node is first, or second after a gap. A run that may not is not worth following. Takes
+/// no memory.
+#[inline(always)]
+pub(crate) fn begins_struct(code: &[Instr], start: u32) -> bool {
+    let at = start as usize;
+    is_node(code, at) || is_node(code, at + 1)
+}
+
 // A struct without members.
 fn without_members(align: u8) -> StructRun
     ensures align { result.align ≡ align }

@@ -232,7 +232,7 @@ module _ (w : Setting) (side : IsLegalSide w) (g : Graph) (c : Conforms w g) whe
       let V : Tree = node tree.Pipe ks in
       let small : node_count (more V none) < 2 ^ 32 = subst (λ (u : Tree). node_count (more u none) < 2 ^ 32) q.shaped.value_is (few_at g c.few_nodes (home.Root (first + j))) in
       let enough : 8 + 9 * node_count ks ≤ STEPS = omega (arith, small) in
-      let room : 32 + 3 ≤ 256 = omega arith in
+      let room : 32 + 3 ≤ 36 = omega arith in
       ap (λ (u : Tree). run C 0 k STEPS (at j) [] (flat (more u none))) q.shaped.value_is
       ∙ pipe_written w.table side.operations 0 k 32 r.of (at j) q.shaped.elem ks q.runs q.shaped.type_is q.shaped.shaped room STEPS some enough
 

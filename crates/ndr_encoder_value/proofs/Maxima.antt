@@ -85,7 +85,7 @@ module _ (w : Setting) (side : IsLegalSide w) (g : Graph) (c : Conforms w g) whe
         ≡ kinds_pieces w.table (hoisted (hoists w.table t) l m) ++ values_pieces w.table (t ∷ []) (more (node l ks) none)
     by_run t l ks s few m =
         let enough : 8 + 9 * node_count (more (node l ks) none) ≤ STEPS = omega (arith, few) in
-        let shallow : suc 31 < 256 = omega arith in
+        let shallow : suc 31 < 36 = omega arith in
         home_written w.table side.operations m k 31 t l ks s shallow STEPS enough
 
     same_run : (t : ℕ) (v : Tree) → Shaped 32 w.table (t ∷ []) (more v none) → node_count (more v none) < 2 ^ 32 → (b : Bool) → hoists w.table t ≡ b
@@ -121,7 +121,7 @@ module _ (w : Setting) (side : IsLegalSide w) (g : Graph) (c : Conforms w g) whe
         let same : value_at g h ≡ V = e ∙ p.value_is in
         let small : node_count (more V none) < 2 ^ 32 = subst (λ u. node_count (more u none) < 2 ^ 32) same (few_at g c.few_nodes h) in
         let enough : 8 + 9 * node_count ks ≤ STEPS = omega (arith, small) in
-        let room : 32 + 3 ≤ 256 = omega arith in
+        let room : 32 + 3 ≤ 36 = omega arith in
         ap (λ u. run C m k STEPS at [] (flat (more u none))) same
         ∙ pipe_written w.table side.operations m k 32 t at p.elem ks s p.type_is p.shaped room STEPS some enough
         ∙ sym (pipe_written w.table side.operations n k 32 t at p.elem ks s p.type_is p.shaped room STEPS some enough)

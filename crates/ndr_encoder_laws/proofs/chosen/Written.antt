@@ -82,7 +82,7 @@ module _ (w : Setting) (side : IsLegalSide w) (g : Graph) (c : Conforms w g) whe
         → run C (hoisted_max 0 (more v none)) k STEPS (whole_at w.table t) [] (flat (more v none)) ≡ shown w.table (whole_value w.table h t v)
     whole_one h t (node l ks) s few =
         let enough : 8 + 9 * node_count (more (node l ks) none) ≤ STEPS = omega (arith, few) in
-        let shallow : suc 31 < 256 = omega arith in
+        let shallow : suc 31 < 36 = omega arith in
         home_written w.table side.operations (hoisted_max 0 (more (node l ks) none)) k 31 t l ks s shallow STEPS enough ∙ sym (shown_whole w.table h t l ks)
 
     home_one : (x : Standing) → Shaped 32 w.table (x.of ∷ []) (more x.val none) → value_at g x.home ≡ x.val
@@ -104,7 +104,7 @@ module _ (w : Setting) (side : IsLegalSide w) (g : Graph) (c : Conforms w g) whe
         let V : Tree = node tree.Pipe ks in
         let small : node_count (more V none) < 2 ^ 32 = subst (λ u. node_count (more u none) < 2 ^ 32) (e ∙ p.value_is) (few_at h) in
         let enough : 8 + 9 * node_count ks ≤ STEPS = omega (arith, small) in
-        let room : 32 + 3 ≤ 256 = omega arith in
+        let room : 32 + 3 ≤ 36 = omega arith in
         ap (λ u. run C (hoisted_max 0 (more u none)) k STEPS at [] (flat (more u none))) (e ∙ p.value_is)
         ∙ pipe_written w.table side.operations (hoisted_max 0 (more V none)) k 32 t at p.elem ks s p.type_is p.shaped room STEPS some enough
         ∙ sym (ap (λ D. pipe_pieces w.table D (cut_of k (count ks)) V) p.type_is)

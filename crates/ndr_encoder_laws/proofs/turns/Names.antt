@@ -114,7 +114,7 @@ names_are table operations h t (node l ks) s few =
     let H : List Piece = kinds_pieces table (hoisted (hoists table t) l 0) in
     let V : List Piece = values_pieces table (t ∷ []) (more (node l ks) none) in
     let enough : 8 + 9 * node_count (more (node l ks) none) ≤ STEPS = omega (arith, few) in
-    let shallow : suc 31 < 256 = omega arith in
+    let shallow : suc 31 < 36 = omega arith in
     ap pieces_names (home_written table operations 0 1 31 t l ks s shallow STEPS enough) ∙ names_joined H V ∙ ap (λ x. x ++ pieces_names V) (hoisted_names table (hoists table t) l 0)
     ∙ values_names 32 table h (t ∷ []) [] 0 (more (node l ks) none) s
 

@@ -71,7 +71,7 @@ module _ (table : Table) (operations : List Operation) (m K : ℕ) where
   C = code_of table operations
 
   -- the elements of a chunk one after the other
-  piped_reach : (d elem rest : ℕ) (ks : Trees) (to : ℕ) (frames : List Frame) (fs : List Flat) → AllRun C m K table d (replicate (count ks) elem) ks → length frames + suc d ≤ 256
+  piped_reach : (d elem rest : ℕ) (ks : Trees) (to : ℕ) (frames : List Frame) (fs : List Flat) → AllRun C m K table d (replicate (count ks) elem) ks → length frames + suc d ≤ 36
       → (j : ℕ) × (j ≤ 8 * node_count ks) × ((n : ℕ) → (i : ℕ) × (i ≡ n + j)
       × (back (run C m K i) C K (frame.Pipe (count ks) rest (place_at table elem) to ∷ frames) (flat ks ++ fs)
       ≡ values_pieces table (replicate (count ks) elem) ks ++ back (run C m K n) C K (frame.Pipe 0 rest (place_at table elem) to ∷ frames) fs))
@@ -105,7 +105,7 @@ module _ (table : Table) (operations : List Operation) (m K : ℕ) where
 
   -- the elements of a chunk, as a row or each by its run
   chunk_by : (row : Option Primitive) (d elem rest : ℕ) (ks : Trees) (to : ℕ) (frames : List Frame) (gs : List Flat) → row_at C (place_at table elem) ≡ row
-      → Shaped d table (replicate (count ks) elem) ks → length frames + suc d ≤ 256 → Chunked row elem rest ks to frames gs
+      → Shaped d table (replicate (count ks) elem) ks → length frames + suc d ≤ 36 → Chunked row elem rest ks to frames gs
   chunk_by None d elem rest ks to frames gs is shaped room =
       let up : List Frame = frame.Pipe (count ks) rest (place_at table elem) to ∷ frames in
       let (j, few, r) = piped_reach d elem rest ks to frames gs (all_run table operations m K d (replicate (count ks) elem) ks shaped) room in
@@ -139,7 +139,7 @@ module _ (table : Table) (operations : List Operation) (m K : ℕ) where
 
   -- a chunk of c elements, and the chunks after it
   next_chunk : (d elem c : ℕ) (cut : List ℕ) (l : Label) (us : Trees) (ts : Trees) (to : ℕ) (frames : List Frame) (fs : List Flat) → 1 ≤ c → c ≤ suc (count ts)
-      → chunk_count K (suc (count ts)) ≡ c → Shaped d table (replicate (suc (count ts)) elem) (more (node l us) ts) → length frames + suc d ≤ 256
+      → chunk_count K (suc (count ts)) ≡ c → Shaped d table (replicate (suc (count ts)) elem) (more (node l us) ts) → length frames + suc d ≤ 36
       → Piped elem cut (drop_trees c (more (node l us) ts)) to frames fs → Piped elem (c ∷ cut) (more (node l us) ts) to frames fs
   next_chunk d elem c cut l us ts to frames fs some most is shaped room (j, few, others) =
       let ks : Trees = more (node l us) ts in
@@ -178,7 +178,7 @@ module _ (table : Table) (operations : List Operation) (m K : ℕ) where
 
   -- a pipe of some elements: the last chunk, or one more of the greatest count
   cut_by : (fuel d elem : ℕ) (l : Label) (us ts : Trees) (to : ℕ) (frames : List Frame) (fs : List Flat) → 1 ≤ K → suc (count ts) ≤ suc fuel
-      → Shaped d table (replicate (suc (count ts)) elem) (more (node l us) ts) → length frames + suc d ≤ 256
+      → Shaped d table (replicate (suc (count ts)) elem) (more (node l us) ts) → length frames + suc d ≤ 36
       → (count (drop_trees K (more (node l us) ts)) ≤ fuel
       → Piped elem (cut_within fuel K (count (drop_trees K (more (node l us) ts)))) (drop_trees K (more (node l us) ts)) to frames fs)
       → (b : Bool) → ltb (suc (count ts)) K ≡ b → Piped elem (cut_within (suc fuel) K (suc (count ts))) (more (node l us) ts) to frames fs
@@ -199,7 +199,7 @@ module _ (table : Table) (operations : List Operation) (m K : ℕ) where
 
   -- a pipe in chunks, each of the greatest count apart from the last
   cut_reach : (fuel d elem : ℕ) (ks : Trees) (to : ℕ) (frames : List Frame) (fs : List Flat) → 1 ≤ K → count ks ≤ fuel → Shaped d table (replicate (count ks) elem) ks
-      → length frames + suc d ≤ 256 → Piped elem (cut_within fuel K (count ks)) ks to frames fs
+      → length frames + suc d ≤ 36 → Piped elem (cut_within fuel K (count ks)) ks to frames fs
   cut_reach zero d elem none to frames fs some most shaped room = (0, omega arith, λ n. (n, omega arith, refl))
   cut_reach zero d elem (more t ts) to frames fs some most shaped room = absurd (omega (arith, most))
   cut_reach (suc fuel) d elem none to frames fs some most shaped room = (0, omega arith, λ n. (n, omega arith, refl))
@@ -210,7 +210,7 @@ module _ (table : Table) (operations : List Operation) (m K : ℕ) where
 
   -- the run of a pipe writes its chunks, and nothing after them
   pub pipe_written : (d t at : ℕ) (elem : TypeId) (ks : Trees) → IsRunAt C at (op.Call (place_at table t) ∷ op.Ret ∷ []) → type_at table t ≡ Some (def.Pipe elem)
-      → Shaped d table (replicate (count ks) elem.0) ks → d + 3 ≤ 256 → (limit : ℕ) → 1 ≤ K → 8 + 9 * node_count ks ≤ limit
+      → Shaped d table (replicate (count ks) elem.0) ks → d + 3 ≤ 36 → (limit : ℕ) → 1 ≤ K → 8 + 9 * node_count ks ≤ limit
       → run C m K limit at [] (flat (more (node tree.Pipe ks) none)) ≡ chunks_pieces table elem.0 (cut_of K (count ks)) ks
   pipe_written d t at elem ks s is shaped room limit some enough =
       let A : ℕ = place_at table t in

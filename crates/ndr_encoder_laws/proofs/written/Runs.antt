@@ -38,8 +38,8 @@ use Rattle.ndr_encoder_laws.proofs.written.Steps.{run_step}
 use Rattle.ndr_encoder_laws.proofs.written.Rows.{row_forms}
 
 -- a frame goes on top where there is room
-pub pushed_room : (f : Frame) (frames : List Frame) → length frames < 256 → pushed f frames ≡ f ∷ frames
-pushed_room f frames h = ap (λ b. elim b [ true ↦ f ∷ frames | false ↦ frames ]) (lt-ltb (length frames) 256 h)
+pub pushed_room : (f : Frame) (frames : List Frame) → length frames < 36 → pushed f frames ≡ f ∷ frames
+pushed_room f frames h = ap (λ b. elim b [ true ↦ f ∷ frames | false ↦ frames ]) (lt-ltb (length frames) 36 h)
 
 module _ (code : List Instr) (m K : ℕ) where
   -- in j steps the run from here writes X, where X says what is written with the steps that are left
@@ -85,7 +85,7 @@ module _ (code : List Instr) (m K : ℕ) where
 
 -- a value of a type runs: its place run over its nodes writes its pieces, and then the frame on top says how it goes on
 pub record Runs (code : List Instr) (m K : ℕ) (table : Table) (d t : ℕ) (l : Label) (ks : Trees) : Type 0 where
-  pub reach : (frames : List Frame) (fs : List Flat) → length frames + d ≤ 256
+  pub reach : (frames : List Frame) (fs : List Flat) → length frames + d ≤ 36
       → (cost : ℕ) × (cost + 1 ≤ 8 * node_count (more (node l ks) none)) × Reach code m K cost (place_at table t) frames ((l, count ks) ∷ (flat ks ++ fs))
       (λ n. values_pieces table (t ∷ []) (more (node l ks) none) ++ back (run code m K n) code K frames fs)
 
@@ -158,7 +158,7 @@ module _ (code : List Instr) (m K : ℕ) (table : Table) where
   -- members are called one after the other
   calls_reach : (d : ℕ) (members : List Field) (ks : Trees) (rest : List Instr) (k pc : ℕ) (frames : List Frame) (fs : List Flat) (X : ℕ → List Piece)
       → length members ≡ count ks → AllRun code m K table d (map (λ f. f.of.0) members) ks
-      → length frames + suc d ≤ 256 → IsRunAt code pc (member_calls (place_at table) members ++ rest)
+      → length frames + suc d ≤ 36 → IsRunAt code pc (member_calls (place_at table) members ++ rest)
       → Reach code m K k (pc + length (member_calls (place_at table) members)) frames fs X
       → (j : ℕ) × (j ≤ k + 8 * node_count ks) × Reach code m K j pc frames (flat ks ++ fs) (λ n. values_pieces table (map (λ f. f.of.0) members) ks ++ X n)
   calls_reach d [] none rest k pc frames fs X e a room s r = (k, omega arith, let e : pc + 0 ≡ pc = omega arith in subst (λ p. Reach code m K k p frames fs X) e r)
@@ -188,7 +188,7 @@ module _ (code : List Instr) (m K : ℕ) (table : Table) where
       )
 
   -- elements one after the other
-  elements_reach : (d elem : ℕ) (ks : Trees) (to : ℕ) (frames : List Frame) (fs : List Flat) → AllRun code m K table d (replicate (count ks) elem) ks → length frames + suc d ≤ 256
+  elements_reach : (d elem : ℕ) (ks : Trees) (to : ℕ) (frames : List Frame) (fs : List Flat) → AllRun code m K table d (replicate (count ks) elem) ks → length frames + suc d ≤ 36
       → (j : ℕ) × (j ≤ 8 * node_count ks) × ((n : ℕ) → (i : ℕ) × (i ≡ n + j)
       × (back (run code m K i) code K (frame.Array (count ks) (place_at table elem) to ∷ frames) (flat ks ++ fs) ≡ values_pieces table (replicate (count ks) elem) ks ++ run code m K n to frames fs))
   elements_reach d elem none to frames fs a room = (0, omega arith, λ n. (n, omega arith, refl))
@@ -390,7 +390,7 @@ module _ (table : Table) (operations : List Operation) (m K : ℕ) where
 
   array_by : (row : Option Primitive) (d elem : ℕ) (ks : Trees) (pc : ℕ) (frames : List Frame) (fs : List Flat) (I : Instr) (pre : List Piece) (l : Label)
       → row_at C (place_at table elem) ≡ row → IsRunAt C pc (I ∷ op.Ret ∷ []) → AllRun C m K table d (replicate (count ks) elem) ks
-      → Shaped d table (replicate (count ks) elem) ks → length frames + suc d ≤ 256
+      → Shaped d table (replicate (count ks) elem) ks → length frames + suc d ≤ 36
       → ((n : ℕ) → stepped (run C m K n) C m K pc frames ((l, count ks) ∷ (flat ks ++ fs)) (Some I)
       ≡ pre ++ elements (run C m K n) row (count ks) (place_at table elem) (pc + 1) frames (flat ks ++ fs))
       → Arrayed elem ks pc frames fs pre l
@@ -430,7 +430,7 @@ module _ (table : Table) (operations : List Operation) (m K : ℕ) where
 
   array_reach : (d elem : ℕ) (ks : Trees) (pc : ℕ) (frames : List Frame) (fs : List Flat) (I : Instr) (pre : List Piece) (l : Label)
       → IsRunAt C pc (I ∷ op.Ret ∷ []) → AllRun C m K table d (replicate (count ks) elem) ks
-      → Shaped d table (replicate (count ks) elem) ks → length frames + suc d ≤ 256
+      → Shaped d table (replicate (count ks) elem) ks → length frames + suc d ≤ 36
       → ((n : ℕ) → stepped (run C m K n) C m K pc frames ((l, count ks) ∷ (flat ks ++ fs)) (Some I)
       ≡ pre ++ elements (run C m K n) (row_at C (place_at table elem)) (count ks) (place_at table elem) (pc + 1) frames (flat ks ++ fs))
       → Arrayed elem ks pc frames fs pre l
@@ -521,7 +521,7 @@ module _ (table : Table) (operations : List Operation) (m K : ℕ) where
 
   -- an arm runs in the place of the union's run
   arm_reach : (d : ℕ) (o : Option TypeId) (ks : Trees) (frames : List Frame) (fs : List Flat) → length (type_list o) ≡ count ks → AllRun C m K table d (type_list o) ks
-      → length frames + suc d ≤ 256
+      → length frames + suc d ≤ 36
       → (j : ℕ) × (j ≤ 2 + 8 * node_count ks) × Reach C m K j (arm_run (place_at table) o) frames (flat ks ++ fs) (λ n. values_pieces table (type_list o) ks ++ back (run C m K n) C K frames fs)
   arm_reach d None none frames fs e a room =
       (2, omega arith, by_step C m K op.Void [] 1 0 1 frames frames fs fs (λ n. back (run C m K n) C K frames fs) refl (λ n. refl) (by_ret C m K 1 frames fs refl))
@@ -625,7 +625,7 @@ module _ (table : Table) (operations : List Operation) (m K : ℕ) where
   form_hoists v (form_context is) = refl
 
   -- a home runs: from its whole run, its pieces are written, and nothing after them
-  whole_by : (d t : ℕ) (l : Label) (ks : Trees) (b : Bool) (D : TypeDef) → type_at table t ≡ Some D → hoists table t ≡ b → Form table t l ks → Runs C m K table d t l ks → d < 256
+  whole_by : (d t : ℕ) (l : Label) (ks : Trees) (b : Bool) (D : TypeDef) → type_at table t ≡ Some D → hoists table t ≡ b → Form table t l ks → Runs C m K table d t l ks → d < 36
       → (k : ℕ) × (k ≤ 3 + 8 * node_count (more (node l ks) none)) × Reach C m K k (whole_at table t) [] (flat (more (node l ks) none))
       (λ n. kinds_pieces table (hoisted b l m) ++ values_pieces table (t ∷ []) (more (node l ks) none))
   whole_by d t l ks false D is e form r room =
@@ -669,7 +669,7 @@ module _ (table : Table) (operations : List Operation) (m K : ℕ) where
   form_type (form_context is) = (_, is)
 
   -- with enough steps a run of a home writes exactly its pieces
-  pub home_written : (d t : ℕ) (l : Label) (ks : Trees) → Shaped (suc d) table (t ∷ []) (more (node l ks) none) → suc d < 256
+  pub home_written : (d t : ℕ) (l : Label) (ks : Trees) → Shaped (suc d) table (t ∷ []) (more (node l ks) none) → suc d < 36
       → (limit : ℕ) → 8 + 9 * node_count (more (node l ks) none) ≤ limit → (run C m K limit (whole_at table t) [] (flat (more (node l ks) none))
       ≡ kinds_pieces table (hoisted (hoists table t) l m) ++ values_pieces table (t ∷ []) (more (node l ks) none))
   home_written d t l ks h room limit enough =

@@ -5,7 +5,7 @@ use Rattle.ndr_encoder_laws.specs.declared.frames.Frame.{Frame}
 
 -- one frame more, where there is room
 abbrev pub pushed : Frame → List Frame → List Frame
-pushed f frames = elim (nat_lt (length frames) 256) [ true ↦ f ∷ frames | false ↦ frames ]
+pushed f frames = elim (nat_lt (length frames) 36) [ true ↦ f ∷ frames | false ↦ frames ]
 
 abbrev pub first_frame : List Frame → Option Frame
 first_frame [] = None

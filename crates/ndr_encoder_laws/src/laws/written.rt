@@ -21,7 +21,7 @@ ghost use Rattle.ndr_encoder_laws.specs.written.Shaped.{Shaped};
 pub fn home_written()
     ensures { (table : Table) (operations : List Operation) (d t : ℕ) (h : Home) (l : Label) (ks : Trees)
         → Shaped (suc d) table (t ∷ []) (more (node l ks) none)
-        → suc d < 256 → (k limit : ℕ) → 8 + 9 * node_count (more (node l ks) none) ≤ limit
+        → suc d < 36 → (k limit : ℕ) → 8 + 9 * node_count (more (node l ks) none) ≤ limit
         → run (code_of table operations) (hoisted_max 0 (more (node l ks) none)) k limit (whole_at table t) [] (flat (more (node l ks) none))
         ≡ shown table (whole_value table h t (node l ks)) }
 {}
@@ -30,7 +30,7 @@ pub fn home_written()
 pub fn pipe_written()
     ensures { (table : Table) (operations : List Operation) (d t at : ℕ) (elem : TypeId) (ks : Trees)
         → IsRunAt (code_of table operations) at (Call (place_at table t) ∷ Ret ∷ [])
-        → type_at table t ≡ Some (Pipe elem) → Shaped d table (replicate (count ks) elem.0) ks → d + 3 ≤ 256
+        → type_at table t ≡ Some (Pipe elem) → Shaped d table (replicate (count ks) elem.0) ks → d + 3 ≤ 36
         → (m k limit : ℕ) → 1 ≤ k → 8 + 9 * node_count ks ≤ limit
         → run (code_of table operations) m k limit at [] (flat (more (node tree.Pipe ks) none))
         ≡ pipe_pieces table (type_at table t) (cut_of k (count ks)) (node tree.Pipe ks) }
