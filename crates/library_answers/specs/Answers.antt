@@ -1,6 +1,5 @@
 -- What handles hold, and what numbers mean.
 use Rattle.std.specs.Prelude.{ℕ, List, Option, Some, None, Bool, ◌==◌, ◌&&◌, if◌then◌else◌, nat_lt, is_some, slice_get, IsSomeAnd}
-use Rattle.std.specs.Arc.{arc_value}
 use Rattle.nd_base.specs.declared.octets.Order.{Order}
 use Rattle.nd_base.specs.declared.octets.Order.TheVariants.{Big, Little}
 use Rattle.nd_types.specs.declared.interface.Interface.{Interface}
@@ -16,7 +15,7 @@ use Rattle.library_handles.specs.declared.held.Held.TheVariants as kept
 
 -- the interface that a handle holds
 abbrev pub interface_in : Option Held → Option Interface
-interface_in (Some (kept.Interface shared)) = Some (arc_value shared)
+interface_in (Some (kept.Interface shared)) = Some shared.value
 interface_in _ = None
 
 -- the values that a handle holds

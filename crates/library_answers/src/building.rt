@@ -1,6 +1,5 @@
 // Values of listings.
 ghost use Rattle.std.specs.Prelude.{◌≡◌, ◌≤◌, true, false, IsSomeAnd};
-ghost use Rattle.std.specs.Arc.{arc_value};
 ghost use Rattle.nd_types.specs.declared.types.Side.TheVariants.{In};
 ghost use Rattle.library_nodes.specs.Built.{has_too_many};
 ghost use Rattle.library_answers.specs.Answers.{values_in, refusal_in, is_side};
@@ -15,14 +14,14 @@ use library_interface::Compiled;
 use library_nodes::{BuildFault, Listing, build, build_response};
 use library_values::Values;
 use std::alloc::Global;
-use std::sync::Arc;
+use std::rc::Rc;
 
 /// Fills `values` with those of a side of an operation that a listing says, or the fault, or sets the number of the first node that is wrong. Takes
 /// memory for the values.
 #[tactic(auto, using(crate::proofs::Listings::builds))]
 pub fn build_values(
     alloc: Global,
-    compiled: &Arc<Compiled>,
+    compiled: &Rc<Compiled>,
     operation: u32,
     side: u32,
     listing: &Listing<'_>,
@@ -35,12 +34,12 @@ pub fn build_values(
     ensures not_short { result ≡ SHORT → ⊥ }
     ensures not_absent { result ≡ ABSENT → ⊥ }
     ensures built { result ≡ OK → IsSomeAnd (values_in values.new.value)
-        (λ v. IsBuild (arc_value compiled.now) operation side listing.now v) }
+        (λ v. IsBuild compiled.now.value operation side listing.now v) }
     ensures few { result ≡ OK → has_too_many listing.now ≡ false }
     ensures refused { result ≡ REFUSED → IsSomeAnd (refusal_in fault.new.value)
-        (λ e. IsBuildRefusal (arc_value compiled.now) operation side listing.now e) }
-    ensures wrong { result ≡ WRONG_NODE → IsWrongNode (arc_value compiled.now) operation side listing.now node.new }
-    ensures argument { result ≡ ARGUMENT → is_side (arc_value compiled.now) operation side ≡ true → has_too_many listing.now ≡ true }
+        (λ e. IsBuildRefusal compiled.now.value operation side listing.now e) }
+    ensures wrong { result ≡ WRONG_NODE → IsWrongNode compiled.now.value operation side listing.now node.new }
+    ensures argument { result ≡ ARGUMENT → is_side compiled.now.value operation side ≡ true → has_too_many listing.now ≡ true }
     ensures values_kept { (result ≡ OK → ⊥) → values.new.value ≡ values.old.value }
     ensures node_kept { (result ≡ WRONG_NODE → ⊥) → node.new ≡ node.old }
     ensures fault_kept { (result ≡ REFUSED → ⊥) → fault.new.value ≡ fault.old.value }

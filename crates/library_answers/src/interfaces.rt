@@ -1,6 +1,5 @@
 // Interfaces.
 ghost use Rattle.std.specs.Prelude.{◌≡◌, ◌≤◌, ◌<◌, length, take, drop, Some, None, option_map, IfSome, IsSomeAnd, IsUtf8};
-ghost use Rattle.std.specs.Arc.{arc_value};
 ghost use Rattle.std.specs.List.{slice_get};
 ghost use Rattle.nd_types.specs.Roots.{operation_named};
 ghost use Rattle.library_interface.specs.Named.{HasBadName};
@@ -11,8 +10,8 @@ use crate::answers::{ABSENT, ARGUMENT, EMPTY, MEMORY, OK, REFUSED, SHORT, fill, 
 use library_handles::{Handle, Held};
 use library_interface::{CompileFault, Compiled, File, compile_files};
 use std::alloc::Global;
+use std::rc::Rc;
 use std::str::from_utf8;
-use std::sync::Arc;
 
 /// Compiles the first file with what it imports, beside the attribute configuration file of the number `acf`, if that is not 0. Fills the interface
 /// or the fault. Takes memory for the interface, and for the files while it compiles.
@@ -111,21 +110,21 @@ fn fill_compiled(alloc: Global, compiled: Compiled, interface: &mut Handle) -> u
     ensures filled { result ≡ OK → interface_in interface.new.value ≡ Some compiled }
     ensures kept { (result ≡ OK → ⊥) → interface.new.value ≡ interface.old.value }
 {
-    match Arc::new(alloc, compiled) {
+    match Rc::new(alloc, compiled) {
         Ok(shared) => fill(alloc, interface, Held::Interface(shared)),
         Err(_) => MEMORY,
     }
 }
 
 /// Fills a handle with an interface that others have too. Takes memory for a box where the handle is empty.
-pub fn share(alloc: Global, compiled: &Arc<Compiled>, again: &mut Handle) -> u32
+pub fn share(alloc: Global, compiled: &Rc<Compiled>, again: &mut Handle) -> u32
     ensures known { result ≤ MEMORY }
     ensures not_empty { result ≡ EMPTY → ⊥ }
     ensures not_argument { result ≡ ARGUMENT → ⊥ }
-    ensures filled { result ≡ OK → interface_in again.new.value ≡ Some (arc_value compiled.now) }
+    ensures filled { result ≡ OK → interface_in again.new.value ≡ Some compiled.now.value }
     ensures kept { (result ≡ OK → ⊥) → again.new.value ≡ again.old.value }
 {
-    match Arc::try_clone(compiled) {
+    match compiled.clone() {
         Ok(shared) => fill(alloc, again, Held::Interface(shared)),
         Err(_) => MEMORY,
     }

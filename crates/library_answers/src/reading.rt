@@ -1,6 +1,5 @@
 // Values of octets and of texts.
 ghost use Rattle.std.specs.Prelude.{◌≡◌, ◌≤◌, Some, true, false, is_some, IsSomeAnd};
-ghost use Rattle.std.specs.Arc.{arc_value};
 ghost use Rattle.nd_types.specs.declared.types.Side.TheVariants.{In, Out};
 ghost use Rattle.library_answers.specs.Answers.{values_in, refusal_in, order_numbered, is_side, is_stream};
 ghost use Rattle.library_answers.specs.Octets.{IsDecode, IsDecodeRefusal, IsResponse, IsResponseRefusal};
@@ -13,13 +12,13 @@ use library_interface::Compiled;
 use library_values::Values;
 use nd_types::Side;
 use std::alloc::Global;
-use std::sync::Arc;
+use std::rc::Rc;
 
 /// Fills `values` with those of a side of an operation that octets begin with (C706, chapter 14), or the fault. Takes memory for the values.
 #[tactic(auto, using(crate::proofs::Numbered::no_stream, crate::proofs::Octets::decode_is, crate::proofs::Octets::decode_refused))]
 pub fn decode(
     alloc: Global,
-    compiled: &Arc<Compiled>,
+    compiled: &Rc<Compiled>,
     operation: u32,
     side: u32,
     order: u32,
@@ -32,10 +31,10 @@ pub fn decode(
     ensures not_empty { result ≡ EMPTY → ⊥ }
     ensures not_short { result ≡ SHORT → ⊥ }
     ensures decoded { result ≡ OK → IsSomeAnd (values_in values.new.value)
-        (λ v. IsDecode (arc_value compiled.now) operation side order octets.now taken.new v) }
+        (λ v. IsDecode compiled.now.value operation side order octets.now taken.new v) }
     ensures refused { result ≡ REFUSED → IsSomeAnd (refusal_in fault.new.value)
-        (λ e. IsDecodeRefusal (arc_value compiled.now) operation side order octets.now e) }
-    ensures argument { result ≡ ARGUMENT → is_stream (arc_value compiled.now) operation side order ≡ false }
+        (λ e. IsDecodeRefusal compiled.now.value operation side order octets.now e) }
+    ensures argument { result ≡ ARGUMENT → is_stream compiled.now.value operation side order ≡ false }
     ensures values_kept { (result ≡ OK → ⊥) → values.new.value ≡ values.old.value }
     ensures taken_kept { (result ≡ OK → ⊥) → taken.new ≡ taken.old }
     ensures fault_kept { (result ≡ REFUSED → ⊥) → fault.new.value ≡ fault.old.value }
@@ -126,7 +125,7 @@ pub(crate) fn is_request(values: &Values) -> bool
 #[tactic(auto, using(crate::proofs::Numbered::no_values, crate::proofs::Texts::read_is, crate::proofs::Texts::read_refused))]
 pub fn read(
     alloc: Global,
-    compiled: &Arc<Compiled>,
+    compiled: &Rc<Compiled>,
     operation: u32,
     side: u32,
     text: &[u8],
@@ -136,10 +135,10 @@ pub fn read(
     ensures known { result ≤ REFUSED }
     ensures not_empty { result ≡ EMPTY → ⊥ }
     ensures not_short { result ≡ SHORT → ⊥ }
-    ensures read { result ≡ OK → IsSomeAnd (values_in values.new.value) (λ v. IsRead (arc_value compiled.now) operation side text.now v) }
+    ensures read { result ≡ OK → IsSomeAnd (values_in values.new.value) (λ v. IsRead compiled.now.value operation side text.now v) }
     ensures refused { result ≡ REFUSED → IsSomeAnd (refusal_in fault.new.value)
-        (λ e. IsReadRefusal (arc_value compiled.now) operation side text.now e) }
-    ensures argument { result ≡ ARGUMENT → is_side (arc_value compiled.now) operation side ≡ false }
+        (λ e. IsReadRefusal compiled.now.value operation side text.now e) }
+    ensures argument { result ≡ ARGUMENT → is_side compiled.now.value operation side ≡ false }
     ensures values_kept { (result ≡ OK → ⊥) → values.new.value ≡ values.old.value }
     ensures fault_kept { (result ≡ REFUSED → ⊥) → fault.new.value ≡ fault.old.value }
 {

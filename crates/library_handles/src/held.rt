@@ -4,13 +4,13 @@ use library_interface::Compiled;
 use library_nodes::KeptNodes;
 use library_values::Values;
 use nd_value::ItemLog;
-use std::sync::Arc;
+use std::rc::Rc;
 
 /// What a handle holds.
 #[derive(Drop)]
 pub enum Held {
     /// An interface, which handles and values share.
-    Interface(Arc<Compiled>),
+    Interface(Rc<Compiled>),
     /// Values of a side of an operation.
     Values(Values),
     /// Why a call was refused.

@@ -1,6 +1,5 @@
 // Values are built of a listing.
 ghost use Rattle.std.specs.Prelude.{◌≡◌, ◌<◌, length, Some, None, false, option_map, IfOk, IfErr};
-ghost use Rattle.std.specs.Arc.{arc_value};
 ghost use Rattle.std.specs.List.{slice_get};
 ghost use Rattle.nd_types.specs.declared.types.Operation.{Operation};
 ghost use Rattle.nd_types.specs.declared.types.Side.TheVariants.{In, Out};
@@ -20,7 +19,7 @@ use library_values::Values;
 use nd_graph::Fit;
 use nd_types::{Interface, Side};
 use std::alloc::Global;
-use std::sync::Arc;
+use std::rc::Rc;
 
 /// The values of a side of an operation that a listing says. `op` must be the number of an operation. A response is judged without a request.
 ///
@@ -31,18 +30,18 @@ use std::sync::Arc;
 /// Takes memory for the values. The time is in proportion to the listing.
 pub fn build(
     alloc: Global,
-    compiled: &Arc<Compiled>,
+    compiled: &Rc<Compiled>,
     op: u32,
     side: Side,
     listing: &Listing<'_>,
 ) -> Result<Values, BuildFault>
-    requires known { op < length (arc_value compiled.now).operations }
-    ensures built { (o : Operation) → slice_get (arc_value compiled.now).operations op ≡ Some o
-        → IfOk result (λ v. Says (setting_beside (arc_value compiled.now) o side None) listing.now v.graph) }
-    ensures of { IfOk result (λ v. IsOf (arc_value compiled.now) op side None v) }
+    requires known { op < length compiled.now.value.operations }
+    ensures built { (o : Operation) → slice_get compiled.now.value.operations op ≡ Some o
+        → IfOk result (λ v. Says (setting_beside compiled.now.value o side None) listing.now v.graph) }
+    ensures of { IfOk result (λ v. IsOf compiled.now.value op side None v) }
     ensures few { IfOk result (λ _. has_too_many listing.now ≡ false) }
-    ensures refused { (o : Operation) → slice_get (arc_value compiled.now).operations op ≡ Some o
-        → IfErr result (IsBuildCause (setting_beside (arc_value compiled.now) o side None) listing.now) }
+    ensures refused { (o : Operation) → slice_get compiled.now.value.operations op ≡ Some o
+        → IfErr result (IsBuildCause (setting_beside compiled.now.value o side None) listing.now) }
 {
     build_beside(alloc, compiled, op, side, None, listing)
 }
@@ -72,11 +71,11 @@ pub fn build_response(
 // The values of the response to a request.
 fn build_given(
     alloc: Global,
-    compiled: &Arc<Compiled>,
+    compiled: &Rc<Compiled>,
     request: &Fit,
     listing: &Listing<'_>,
 ) -> Result<Values, BuildFault>
-    requires tied { arc_value compiled.now ≡ request.now.interface }
+    requires tied { compiled.now.value ≡ request.now.interface }
     requires request { request.now.side ≡ In }
     ensures built { (o : Operation) → slice_get request.now.interface.operations request.now.op ≡ Some o
         → IfOk result (λ v. Says (setting_beside request.now.interface o Out (Some request.now.graph)) listing.now v.graph) }
@@ -94,20 +93,20 @@ fn build_given(
 // The values that a listing says, with a request or without one.
 fn build_beside(
     alloc: Global,
-    compiled: &Arc<Compiled>,
+    compiled: &Rc<Compiled>,
     op: u32,
     side: Side,
     given: Option<&Fit>,
     listing: &Listing<'_>,
 ) -> Result<Values, BuildFault>
-    requires known { op < length (arc_value compiled.now).operations }
-    requires request { IsRequestOf (arc_value compiled.now) op side (option_map (λ f. f.now) given) }
-    ensures built { (o : Operation) → slice_get (arc_value compiled.now).operations op ≡ Some o
-        → IfOk result (λ v. Says (setting_beside (arc_value compiled.now) o side (option_map (λ f. f.now.graph) given.entry)) listing.now v.graph) }
-    ensures of { IfOk result (λ v. IsOf (arc_value compiled.now) op side (option_map (λ f. f.now.graph) given.entry) v) }
+    requires known { op < length compiled.now.value.operations }
+    requires request { IsRequestOf compiled.now.value op side (option_map (λ f. f.now) given) }
+    ensures built { (o : Operation) → slice_get compiled.now.value.operations op ≡ Some o
+        → IfOk result (λ v. Says (setting_beside compiled.now.value o side (option_map (λ f. f.now.graph) given.entry)) listing.now v.graph) }
+    ensures of { IfOk result (λ v. IsOf compiled.now.value op side (option_map (λ f. f.now.graph) given.entry) v) }
     ensures few { IfOk result (λ _. has_too_many listing.now ≡ false) }
-    ensures refused { (o : Operation) → slice_get (arc_value compiled.now).operations op ≡ Some o
-        → IfErr result (IsBuildCause (setting_beside (arc_value compiled.now) o side (option_map (λ f. f.now.graph) given.entry)) listing.now) }
+    ensures refused { (o : Operation) → slice_get compiled.now.value.operations op ≡ Some o
+        → IfErr result (IsBuildCause (setting_beside compiled.now.value o side (option_map (λ f. f.now.graph) given.entry)) listing.now) }
 {
     let interface = interface_of(compiled);
     match fit_listing(alloc, interface, op, side, given, listing) {
@@ -117,15 +116,15 @@ fn build_beside(
 }
 
 // The interface that is shared.
-fn interface_of(compiled: &Arc<Compiled>) -> &Interface
-    ensures { result.now ≡ arc_value compiled.now }
+fn interface_of(compiled: &Rc<Compiled>) -> &Interface
+    ensures { result.now ≡ compiled.now.value }
 {
     compiled.interface()
 }
 
 // A fit with its interface.
-fn held(compiled: &Arc<Compiled>, fit: Fit) -> Result<Values, BuildFault>
-    requires { fit.interface ≡ arc_value compiled.now }
+fn held(compiled: &Rc<Compiled>, fit: Fit) -> Result<Values, BuildFault>
+    requires { fit.interface ≡ compiled.now.value }
     ensures ok { IfOk result (λ v. v ≡ fit) }
     ensures err { IfErr result (λ e. e ≡ fault.Refused refusal.Memory) }
 {

@@ -12,15 +12,16 @@ use std::mem;
 // Two lists of nodes, of which the first is the one that is read.
 #[derive(Drop)]
 struct Lists {
-    nodes: Nodes,
-    spare: Nodes,
+    nodes: Box<Nodes>,
+    spare: Box<Nodes>,
 }
 
 /// The nodes of a graph, and the room of a list before them, in which the nodes of the next graph are listed: so graphs of the same size take no
-/// memory after the second. Contracts see the nodes. Both lists are in a box, so that what holds them is small.
+/// memory after the second. Contracts see the nodes. Each list is in a box, so that what holds them is small, and they change places without being
+/// moved.
 #[derive(Drop)]
 pub struct KeptNodes {
-    lists: Box<Lists>,
+    lists: Lists,
 }
 
 impl Model for KeptNodes {
@@ -31,20 +32,23 @@ impl Model for KeptNodes {
 
     ghost coded = { nodes_row.coded };
 
-    ghost view = { λ k. k.lists.value.nodes };
+    ghost view = { λ k. k.lists.nodes.value };
 }
 
 impl KeptNodes {
-    /// The nodes of a graph. It takes memory as `Nodes::of` does, and for a box; running out of it is the only refusal.
+    /// The nodes of a graph. It takes memory as `Nodes::of` does, and for two boxes; running out of it is the only refusal.
+    #[inline(never)]
     pub fn of(alloc: Global, graph: &FlatGraph) -> Result<KeptNodes, Memory>
         ensures { IfOk result (λ k. IsListOf graph.now k) }
     {
-        let lists = Lists {
-            nodes: Nodes::of(alloc, graph)?,
-            spare: Nodes::none(alloc),
+        let listed = Nodes::of(alloc, graph)?;
+        let Ok(nodes) = Box::new(alloc, listed) else {
+            return Err(Memory);
         };
-        match Box::new(alloc, lists) {
-            Ok(lists) => Ok(KeptNodes { lists }),
+        match Box::new(alloc, Nodes::none(alloc)) {
+            Ok(spare) => Ok(KeptNodes {
+                lists: Lists { nodes, spare },
+            }),
             Err(_) => Err(Memory),
         }
     }
@@ -55,7 +59,7 @@ impl KeptNodes {
         ensures ok { OnOk result (IsListOf graph.now self.new) }
         ensures err { OnErr result (self.new ≡ self.old) }
     {
-        list_in_room(&mut *self.lists, graph)
+        list_in_room(&mut self.lists, graph)
     }
 
     /// The nodes. Takes no memory.
@@ -63,16 +67,15 @@ impl KeptNodes {
     pub fn nodes(&self) -> &Nodes
         ensures { result.now ≡ self.now }
     {
-        let lists = &*self.lists;
-        &lists.nodes
+        &*self.lists.nodes
     }
 }
 
 // Lists the nodes of a graph in the room of the spare list, which changes places with the other.
 #[inline(always)]
 fn list_in_room(lists: &mut Lists, graph: &FlatGraph) -> Result<(), Memory>
-    ensures ok { OnOk result (IsListOf graph.now lists.new.nodes) }
-    ensures err { OnErr result (lists.new.nodes ≡ lists.old.nodes) }
+    ensures ok { OnOk result (IsListOf graph.now lists.new.nodes.value) }
+    ensures err { OnErr result (lists.new.nodes.value ≡ lists.old.nodes.value) }
 {
     lists.spare.fill(graph)?;
     mem::swap(&mut lists.nodes, &mut lists.spare);

@@ -15,12 +15,11 @@ use crate::nodes::NodeList;
 use crate::rows::{add_row, next_row};
 use nd_base::{Memory, Octets, push};
 use nd_flat::{FlatGraph, PlainWalk, Seen, Walk};
-use smallvec::SmallVec;
 
 // Adds the nodes of all roots.
 pub(crate) fn lay_roots(
     list: &mut NodeList,
-    starts: &mut SmallVec<usize, 4>,
+    starts: &mut Vec<usize>,
     graph: &FlatGraph,
 ) -> Result<(), Memory>
     ensures { OnOk result (AddsHomes graph.now.roots list.old starts.old.items list.new starts.new.items) }
@@ -34,7 +33,7 @@ pub(crate) fn lay_roots(
 // Adds the nodes of all cells.
 pub(crate) fn lay_cells(
     list: &mut NodeList,
-    starts: &mut SmallVec<usize, 4>,
+    starts: &mut Vec<usize>,
     graph: &FlatGraph,
 ) -> Result<(), Memory>
     ensures { OnOk result (AddsHomes (map (λ c. c.val) graph.now.cells) list.old starts.old.items list.new starts.new.items) }
@@ -47,18 +46,12 @@ pub(crate) fn lay_cells(
 
 // Adds the nodes of a home, and notes the number of the first.
 #[inline(always)]
-fn lay_home(
-    list: &mut NodeList,
-    starts: &mut SmallVec<usize, 4>,
-    walk: PlainWalk<'_>,
-) -> Result<(), Memory>
+fn lay_home(list: &mut NodeList, starts: &mut Vec<usize>, walk: PlainWalk<'_>) -> Result<(), Memory>
     requires { (t : Tree) × (walk ≡ more t none) }
     ensures starts { OnOk result (starts.new.items ≡ starts.old.items ++ length list.old.nodes.items ∷ []) }
     ensures adds { OnOk result (Adds (flat walk.entry) list.old list.new) }
 {
-    let Ok(()) = starts.push(list.nodes.as_slice().len()) else {
-        return Err(Memory);
-    };
+    push(starts, list.nodes.as_slice().len())?;
     lay_value(list, walk)
 }
 

@@ -7,7 +7,6 @@ use crate::laying::{lay_cells, lay_roots};
 use crate::node::Node;
 use nd_base::{Memory, Octets};
 use nd_flat::FlatGraph;
-use smallvec::SmallVec;
 use std::alloc::Global;
 
 /// Nodes, with the numbers that are elements of arrays and pipes, and the octets of strings. A number that is an element takes 8 octets.
@@ -32,13 +31,12 @@ impl NodeList {
     }
 }
 
-/// The nodes of the roots of a graph and then of its cells, and which of them are the first of these. Of the first four of these homes the numbers
-/// take no memory.
+/// The nodes of the roots of a graph and then of its cells, and which of them are the first of these.
 #[derive(Drop)]
 pub struct Nodes {
     pub list: NodeList,
     /// The number of the first node of each root and then of each cell.
-    pub starts: SmallVec<usize, 4>,
+    pub starts: Vec<usize>,
     /// How many roots there are.
     pub roots: usize,
 }
@@ -63,7 +61,7 @@ impl Nodes {
                 numbers: Vec::new(alloc),
                 octets: Octets::new(alloc),
             },
-            starts: SmallVec::new(alloc),
+            starts: Vec::new(alloc),
             roots: 0,
         }
     }

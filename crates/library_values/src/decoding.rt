@@ -1,6 +1,5 @@
 // Values of octets in memory.
 ghost use Rattle.std.specs.Prelude.{◌≡◌, ◌<◌, length, Some, None, option_map, IfOk, IfErr};
-ghost use Rattle.std.specs.Arc.{arc_value};
 ghost use Rattle.std.specs.List.{slice_get};
 ghost use Rattle.nd_types.specs.declared.interface.Interface.{Interface};
 ghost use Rattle.nd_types.specs.declared.types.Operation.{Operation};
@@ -19,7 +18,7 @@ use nd_types::Side;
 use ndr_code::Plan;
 use ndr_decode::{DecodeFault, Decoded, decode};
 use std::alloc::Global;
-use std::sync::Arc;
+use std::rc::Rc;
 
 impl Values {
     /// The values of a side of an operation that octets begin with, in NDR (C706, chapter 14), and how many octets they take. `op` must be the number
@@ -31,18 +30,18 @@ impl Values {
     /// Takes memory for the values. The time is in proportion to the octets that they take.
     pub fn decode(
         alloc: Global,
-        compiled: &Arc<Compiled>,
+        compiled: &Rc<Compiled>,
         op: u32,
         side: Side,
         order: Order,
         octets: &[u8],
     ) -> Result<(Values, u32), Refusal>
-        requires known { op < length (arc_value compiled.now).operations }
-        ensures decoded { (o : Operation) → slice_get (arc_value compiled.now).operations op ≡ Some o
-            → IfOk result (λ d. IsDecodedOf (setting_beside (arc_value compiled.now) o side None) order octets.now d.1 d.0.graph) }
-        ensures of { IfOk result (λ d. IsOf (arc_value compiled.now) op side None d.0) }
-        ensures refused { (o : Operation) → slice_get (arc_value compiled.now).operations op ≡ Some o
-            → IfErr result (IsOctetsCause (setting_beside (arc_value compiled.now) o side None) order octets.now) }
+        requires known { op < length compiled.now.value.operations }
+        ensures decoded { (o : Operation) → slice_get compiled.now.value.operations op ≡ Some o
+            → IfOk result (λ d. IsDecodedOf (setting_beside compiled.now.value o side None) order octets.now d.1 d.0.graph) }
+        ensures of { IfOk result (λ d. IsOf compiled.now.value op side None d.0) }
+        ensures refused { (o : Operation) → slice_get compiled.now.value.operations op ≡ Some o
+            → IfErr result (IsOctetsCause (setting_beside compiled.now.value o side None) order octets.now) }
     {
         decode_beside(alloc, compiled, op, side, None, order, octets)
     }
@@ -74,12 +73,12 @@ impl Values {
 // The values of the response to a request.
 fn decode_given(
     alloc: Global,
-    compiled: &Arc<Compiled>,
+    compiled: &Rc<Compiled>,
     request: &Fit,
     order: Order,
     octets: &[u8],
 ) -> Result<(Values, u32), Refusal>
-    requires tied { arc_value compiled.now ≡ request.now.interface }
+    requires tied { compiled.now.value ≡ request.now.interface }
     requires request { request.now.side ≡ In }
     ensures decoded { (o : Operation) → slice_get request.now.interface.operations request.now.op ≡ Some o
         → IfOk result (λ d. IsDecodedOf (setting_beside request.now.interface o Out (Some request.now.graph)) order octets.now d.1 d.0.graph) }
@@ -97,22 +96,22 @@ fn decode_given(
 #[inline(always)]
 fn decode_beside(
     alloc: Global,
-    compiled: &Arc<Compiled>,
+    compiled: &Rc<Compiled>,
     op: u32,
     side: Side,
     given: Option<&Fit>,
     order: Order,
     octets: &[u8],
 ) -> Result<(Values, u32), Refusal>
-    requires known { op < length (arc_value compiled.now).operations }
-    requires request { IsRequestOf (arc_value compiled.now) op side (option_map (λ f. f.now) given) }
-    ensures decoded { (o : Operation) → slice_get (arc_value compiled.now).operations op ≡ Some o
-        → IfOk result (λ d. IsDecodedOf (setting_beside (arc_value compiled.now) o side (option_map (λ f. f.now.graph) given.entry)) order octets.now
+    requires known { op < length compiled.now.value.operations }
+    requires request { IsRequestOf compiled.now.value op side (option_map (λ f. f.now) given) }
+    ensures decoded { (o : Operation) → slice_get compiled.now.value.operations op ≡ Some o
+        → IfOk result (λ d. IsDecodedOf (setting_beside compiled.now.value o side (option_map (λ f. f.now.graph) given.entry)) order octets.now
         d.1 d.0.graph) }
-    ensures of { IfOk result (λ d. IsOf (arc_value compiled.now) op side (option_map (λ f. f.now.graph) given.entry) d.0) }
-    ensures refused { (o : Operation) → slice_get (arc_value compiled.now).operations op ≡ Some o
+    ensures of { IfOk result (λ d. IsOf compiled.now.value op side (option_map (λ f. f.now.graph) given.entry) d.0) }
+    ensures refused { (o : Operation) → slice_get compiled.now.value.operations op ≡ Some o
         → IfErr result
-        (IsOctetsCause (setting_beside (arc_value compiled.now) o side (option_map (λ f. f.now.graph) given.entry)) order octets.now) }
+        (IsOctetsCause (setting_beside compiled.now.value o side (option_map (λ f. f.now.graph) given.entry)) order octets.now) }
 {
     let plan = plan_of(compiled);
     match decode_lent(alloc, plan, op, side, given, order, octets) {
@@ -123,8 +122,8 @@ fn decode_beside(
 
 // What was decoded, with its interface.
 #[inline(always)]
-fn held(compiled: &Arc<Compiled>, decoded: Decoded) -> Result<(Values, u32), Refusal>
-    requires { decoded.fit.interface ≡ arc_value compiled.now }
+fn held(compiled: &Rc<Compiled>, decoded: Decoded) -> Result<(Values, u32), Refusal>
+    requires { decoded.fit.interface ≡ compiled.now.value }
     ensures ok { IfOk result (λ d. (d.0 ≡ decoded.fit) × (d.1 ≡ decoded.taken)) }
     ensures err { IfErr result (λ e. e ≡ refusal.Memory) }
 {

@@ -1,6 +1,5 @@
 // Values of texts.
 ghost use Rattle.std.specs.Prelude.{◌≡◌, ◌<◌, length, Some, None, option_map, IfOk, IfErr};
-ghost use Rattle.std.specs.Arc.{arc_value};
 ghost use Rattle.std.specs.List.{slice_get};
 ghost use Rattle.nd_types.specs.declared.types.Operation.{Operation};
 ghost use Rattle.nd_types.specs.declared.types.Side.TheVariants.{In, Out};
@@ -17,7 +16,7 @@ use library_interface::Compiled;
 use nd_graph::Fit;
 use nd_types::Side;
 use std::alloc::Global;
-use std::sync::Arc;
+use std::rc::Rc;
 
 impl Values {
     /// The values of a side of an operation that a text is read as. `op` must be the number of an operation. A response is judged without a
@@ -30,17 +29,17 @@ impl Values {
     /// Takes memory for the values. The time is in proportion to the text.
     pub fn read(
         alloc: Global,
-        compiled: &Arc<Compiled>,
+        compiled: &Rc<Compiled>,
         op: u32,
         side: Side,
         text: &[u8],
     ) -> Result<Values, Refusal>
-        requires known { op < length (arc_value compiled.now).operations }
-        ensures read { (o : Operation) → slice_get (arc_value compiled.now).operations op ≡ Some o
-            → IfOk result (λ v. ReadsAs (setting_beside (arc_value compiled.now) o side None) text.now v.graph) }
-        ensures of { IfOk result (λ v. IsOf (arc_value compiled.now) op side None v) }
-        ensures refused { (o : Operation) → slice_get (arc_value compiled.now).operations op ≡ Some o
-            → IfErr result (IsTextCause (setting_beside (arc_value compiled.now) o side None) text.now) }
+        requires known { op < length compiled.now.value.operations }
+        ensures read { (o : Operation) → slice_get compiled.now.value.operations op ≡ Some o
+            → IfOk result (λ v. ReadsAs (setting_beside compiled.now.value o side None) text.now v.graph) }
+        ensures of { IfOk result (λ v. IsOf compiled.now.value op side None v) }
+        ensures refused { (o : Operation) → slice_get compiled.now.value.operations op ≡ Some o
+            → IfErr result (IsTextCause (setting_beside compiled.now.value o side None) text.now) }
     {
         read_beside(alloc, compiled, op, side, None, text)
     }
@@ -68,11 +67,11 @@ impl Values {
 // The values of the response to a request.
 fn read_given(
     alloc: Global,
-    compiled: &Arc<Compiled>,
+    compiled: &Rc<Compiled>,
     request: &Fit,
     text: &[u8],
 ) -> Result<Values, Refusal>
-    requires tied { arc_value compiled.now ≡ request.now.interface }
+    requires tied { compiled.now.value ≡ request.now.interface }
     requires request { request.now.side ≡ In }
     ensures read { (o : Operation) → slice_get request.now.interface.operations request.now.op ≡ Some o
         → IfOk result (λ v. ReadsAs (setting_beside request.now.interface o Out (Some request.now.graph)) text.now v.graph) }
@@ -89,19 +88,19 @@ fn read_given(
 // The values that a text is read as, with a request or without one.
 fn read_beside(
     alloc: Global,
-    compiled: &Arc<Compiled>,
+    compiled: &Rc<Compiled>,
     op: u32,
     side: Side,
     given: Option<&Fit>,
     text: &[u8],
 ) -> Result<Values, Refusal>
-    requires known { op < length (arc_value compiled.now).operations }
-    requires request { IsRequestOf (arc_value compiled.now) op side (option_map (λ f. f.now) given) }
-    ensures read { (o : Operation) → slice_get (arc_value compiled.now).operations op ≡ Some o
-        → IfOk result (λ v. ReadsAs (setting_beside (arc_value compiled.now) o side (option_map (λ f. f.now.graph) given.entry)) text.now v.graph) }
-    ensures of { IfOk result (λ v. IsOf (arc_value compiled.now) op side (option_map (λ f. f.now.graph) given.entry) v) }
-    ensures refused { (o : Operation) → slice_get (arc_value compiled.now).operations op ≡ Some o
-        → IfErr result (IsTextCause (setting_beside (arc_value compiled.now) o side (option_map (λ f. f.now.graph) given.entry)) text.now) }
+    requires known { op < length compiled.now.value.operations }
+    requires request { IsRequestOf compiled.now.value op side (option_map (λ f. f.now) given) }
+    ensures read { (o : Operation) → slice_get compiled.now.value.operations op ≡ Some o
+        → IfOk result (λ v. ReadsAs (setting_beside compiled.now.value o side (option_map (λ f. f.now.graph) given.entry)) text.now v.graph) }
+    ensures of { IfOk result (λ v. IsOf compiled.now.value op side (option_map (λ f. f.now.graph) given.entry) v) }
+    ensures refused { (o : Operation) → slice_get compiled.now.value.operations op ≡ Some o
+        → IfErr result (IsTextCause (setting_beside compiled.now.value o side (option_map (λ f. f.now.graph) given.entry)) text.now) }
 {
     let interface = interface_of(compiled);
     match fit_text(alloc, interface, op, side, given, text) {

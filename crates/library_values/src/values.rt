@@ -1,6 +1,5 @@
 // Values with their interface.
 ghost use Rattle.std.specs.Prelude.{◌≡◌, ◌≤◌, length, Some, IfOk, IfErr, OnErr};
-ghost use Rattle.std.specs.Arc.{arc_value};
 ghost use Rattle.std.specs.List.{slice_get};
 ghost use Rattle.nd_types.specs.declared.types.Operation.{Operation};
 ghost use Rattle.nd_value.specs.Fitting.{setting_beside};
@@ -17,19 +16,18 @@ use nd_types::{Interface, Side};
 use ndr_code::Plan;
 use std::alloc::Global;
 use std::marker::Model;
-use std::sync::Arc;
+use std::rc::Rc;
 use value_text::print;
 
 /// The values of a side of an operation, with the interface that they are of, which others may have too. Contracts see them as a fit.
 #[derive(Drop)]
 pub struct Values {
-    pub(crate) compiled: Arc<Compiled>,
+    pub(crate) compiled: Rc<Compiled>,
     pub(crate) fit: Fit,
 }
 
 impl Model for Values {
     ghost use Rattle.std.specs.Prelude.{◌≡◌};
-    ghost use Rattle.std.specs.Arc.{arc_value};
     ghost use Rattle.nd_value.specs.Fitting.{Fitting, fitting_code};
 
     ghost Value = { Fitting };
@@ -38,18 +36,18 @@ impl Model for Values {
 
     ghost view = { λ v. v.fit };
 
-    ghost invariant = { λ v. v.fit.interface ≡ arc_value v.compiled };
+    ghost invariant = { λ v. v.fit.interface ≡ v.compiled.value };
 }
 
 impl Values {
     /// A fit with its interface. Memory is the only refusal: the interface has as many values as can be counted.
     #[inline(always)]
-    pub fn of(compiled: &Arc<Compiled>, fit: Fit) -> Result<Values, Refusal>
-        requires { fit.interface ≡ arc_value compiled.now }
+    pub fn of(compiled: &Rc<Compiled>, fit: Fit) -> Result<Values, Refusal>
+        requires { fit.interface ≡ compiled.now.value }
         ensures ok { IfOk result (λ v. v ≡ fit) }
         ensures err { IfErr result (λ e. e ≡ refusal.Memory) }
     {
-        match Arc::try_clone(compiled) {
+        match compiled.clone() {
             Ok(compiled) => Ok(Values { compiled, fit }),
             Err(_) => Err(Refusal::Memory),
         }
@@ -77,8 +75,8 @@ impl Values {
     }
 
     /// The same, as it is shared. Takes no memory.
-    pub fn shared(&self) -> &Arc<Compiled>
-        ensures { arc_value result.now ≡ self.now.interface }
+    pub fn shared(&self) -> &Rc<Compiled>
+        ensures { result.now.value ≡ self.now.interface }
     {
         &self.compiled
     }
@@ -135,15 +133,15 @@ fn print_fit(alloc: Global, interface: &Interface, fit: &Fit) -> Result<Octets, 
 }
 
 /// The interface that is shared. Takes no memory.
-pub(crate) fn interface_of(compiled: &Arc<Compiled>) -> &Interface
-    ensures { result.now ≡ arc_value compiled.now }
+pub(crate) fn interface_of(compiled: &Rc<Compiled>) -> &Interface
+    ensures { result.now ≡ compiled.now.value }
 {
     compiled.interface()
 }
 
 /// Its plan. Takes no memory.
-pub(crate) fn plan_of(compiled: &Arc<Compiled>) -> &Plan
-    ensures { result.now.tie ≡ arc_value compiled.now }
+pub(crate) fn plan_of(compiled: &Rc<Compiled>) -> &Plan
+    ensures { result.now.tie ≡ compiled.now.value }
 {
     compiled.plan()
 }

@@ -99,6 +99,7 @@ impl Stream {
 }
 
 // Opens the next root.
+#[inline(always)]
 fn add_root(machine: &mut Machine) -> Result<(), DecodeFault>
     requires whole { CanClose machine.old.builder }
     ensures builder { OnOk result

@@ -1,5 +1,4 @@
 use Rattle.std.proofs.Common.{◌≡◌, ℕ, Some, IfOk, IfErr, sym, subst}
-use Rattle.std.specs.Arc.{arc_value}
 use Rattle.std.specs.List.{slice_get}
 use Rattle.nd_types.specs.declared.interface.Interface.{Interface}
 use Rattle.nd_types.specs.declared.types.Side.TheVariants.{Out}
@@ -11,7 +10,7 @@ use Rattle.library_nodes.proofs.building.build_given.Goals as goal
 
 pub build_beside-requires-clause-request : goal.build_beside-requires-clause-request
 build_beside-requires-clause-request c =
-    request_is (arc_value c.args.compiled.now) c.op-op.result c.args.request.now (sym c.requires.tied) (sym c.op-op.ensures) c.requires.request
+    request_is c.args.compiled.now.value c.op-op.result c.args.request.now (sym c.requires.tied) (sym c.op-op.ensures) c.requires.request
 
 pub returns-clause-built : goal.returns-clause-built
 returns-clause-built c o there =
@@ -25,7 +24,7 @@ pub returns-clause-of : goal.returns-clause-of
 returns-clause-of c =
     let f = c.args.request.now in
     subst (λ (i : Interface). IfOk c.build_beside.result (λ v. IsOf i f.op Out (Some f.graph) v)) c.requires.tied
-    (subst (λ (n : ℕ). IfOk c.build_beside.result (λ v. IsOf (arc_value c.args.compiled.now) n Out (Some f.graph) v)) c.op-op.ensures c.build_beside.ensures.of)
+    (subst (λ (n : ℕ). IfOk c.build_beside.result (λ v. IsOf c.args.compiled.now.value n Out (Some f.graph) v)) c.op-op.ensures c.build_beside.ensures.of)
 
 pub returns-clause-refused : goal.returns-clause-refused
 returns-clause-refused c o there =

@@ -1,5 +1,4 @@
 use Rattle.std.proofs.Common.{◌≡◌, ◌<◌, ◌∙◌, ℕ, length, sym, subst, option_map}
-use Rattle.std.specs.Arc.{arc_value}
 use Rattle.nd_types.specs.declared.interface.Interface.{Interface}
 use Rattle.nd_value.specs.Fitting.{Fitting, setting_beside}
 use Rattle.nd_value.specs.Request.{IsRequestOf}
@@ -20,7 +19,7 @@ held-requires c = c.in-Ok.ensures.of.interface_is ∙ c.plan_of-plan.ensures
 
 pub returns-in-Ok-clause-decoded : goal.returns-in-Ok-clause-decoded
 returns-in-Ok-clause-decoded c o there =
-    let i = arc_value c.args.compiled.now in
+    let i = c.args.compiled.now.value in
     let q = option_map (λ f. f.now.graph) c.args.given in
     let d = c.in-Ok.decoded in
     both_ok c.held.result d.fit d.taken (λ (f : Fitting) (n : ℕ). IsDecodedOf (setting_beside i o c.args.side q) c.args.order c.args.octets.now n f.graph) c.held.ensures.ok
@@ -30,13 +29,13 @@ pub returns-in-Ok-clause-of : goal.returns-in-Ok-clause-of
 returns-in-Ok-clause-of c =
     let q = option_map (λ f. f.now.graph) c.args.given in
     let d = c.in-Ok.decoded in
-    both_ok c.held.result d.fit d.taken (λ (f : Fitting) (n : ℕ). IsOf (arc_value c.args.compiled.now) c.args.op c.args.side q f) c.held.ensures.ok
+    both_ok c.held.result d.fit d.taken (λ (f : Fitting) (n : ℕ). IsOf c.args.compiled.now.value c.args.op c.args.side q f) c.held.ensures.ok
     (subst (λ (j : Interface). IsOf j c.args.op c.args.side q d.fit) c.plan_of-plan.ensures c.in-Ok.ensures.of)
 
 pub returns-in-Ok-clause-refused : goal.returns-in-Ok-clause-refused
 returns-in-Ok-clause-refused c o there =
     let q = option_map (λ f. f.now.graph) c.args.given in
-    same_err c.held.result refusal.Memory (IsOctetsCause (setting_beside (arc_value c.args.compiled.now) o c.args.side q) c.args.order c.args.octets.now) c.held.ensures.err tt
+    same_err c.held.result refusal.Memory (IsOctetsCause (setting_beside c.args.compiled.now.value o c.args.side q) c.args.order c.args.octets.now) c.held.ensures.err tt
 
 pub returns-in-Err-clause-refused : goal.returns-in-Err-clause-refused
-returns-in-Err-clause-refused c o there = c.in-Err.ensures.refused (arc_value c.args.compiled.now) o c.plan_of-plan.ensures there
+returns-in-Err-clause-refused c o there = c.in-Err.ensures.refused c.args.compiled.now.value o c.plan_of-plan.ensures there

@@ -1,5 +1,4 @@
 use Rattle.std.proofs.Common.{◌≡◌, ℕ, Some, IfOk, IfErr, sym, subst}
-use Rattle.std.specs.Arc.{arc_value}
 use Rattle.std.specs.List.{slice_get}
 use Rattle.nd_types.specs.declared.interface.Interface.{Interface}
 use Rattle.nd_types.specs.declared.types.Side.TheVariants.{Out}
@@ -9,7 +8,7 @@ use Rattle.library_values.proofs.Requests.{request_is}
 use Rattle.library_values.proofs.decoding.decode_given.Goals as goal
 
 pub decode_beside-requires-clause-request : goal.decode_beside-requires-clause-request
-decode_beside-requires-clause-request c = request_is (arc_value c.args.compiled.now) c.op-op.result c.args.request.now (sym c.requires.tied) (sym c.op-op.ensures) c.requires.request
+decode_beside-requires-clause-request c = request_is c.args.compiled.now.value c.op-op.result c.args.request.now (sym c.requires.tied) (sym c.op-op.ensures) c.requires.request
 
 pub returns-clause-decoded : goal.returns-clause-decoded
 returns-clause-decoded c o there =
@@ -23,7 +22,7 @@ pub returns-clause-of : goal.returns-clause-of
 returns-clause-of c =
     let f = c.args.request.now in
     subst (λ (i : Interface). IfOk c.decode_beside.result (λ d. IsOf i f.op Out (Some f.graph) d.0)) c.requires.tied
-    (subst (λ (n : ℕ). IfOk c.decode_beside.result (λ d. IsOf (arc_value c.args.compiled.now) n Out (Some f.graph) d.0)) c.op-op.ensures c.decode_beside.ensures.of)
+    (subst (λ (n : ℕ). IfOk c.decode_beside.result (λ d. IsOf c.args.compiled.now.value n Out (Some f.graph) d.0)) c.op-op.ensures c.decode_beside.ensures.of)
 
 pub returns-clause-refused : goal.returns-clause-refused
 returns-clause-refused c o there =

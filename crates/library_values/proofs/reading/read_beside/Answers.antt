@@ -1,5 +1,4 @@
 use Rattle.std.proofs.Common.{◌≡◌, ◌<◌, ◌∙◌, Some, length, sym, subst, option_map}
-use Rattle.std.specs.Arc.{arc_value}
 use Rattle.std.specs.List.{slice_get}
 use Rattle.nd_types.specs.declared.interface.Interface.{Interface}
 use Rattle.nd_value.specs.Fitting.{Fitting, setting_beside}
@@ -23,7 +22,7 @@ of-requires c = c.in-Ok.ensures.tied ∙ c.interface_of-interface.ensures
 
 pub returns-in-Ok-clause-read : goal.returns-in-Ok-clause-read
 returns-in-Ok-clause-read c o there =
-    let i = arc_value c.args.compiled.now in
+    let i = c.args.compiled.now.value in
     let q = option_map (λ f. f.now.graph) c.args.given in
     let is = c.interface_of-interface.ensures in
     same_ok c.of.result c.in-Ok.fit (λ (f : Fitting). ReadsAs (setting_beside i o c.args.side q) c.args.text.now f.graph) c.of.ensures.ok
@@ -33,7 +32,7 @@ returns-in-Ok-clause-read c o there =
 pub returns-in-Ok-clause-of : goal.returns-in-Ok-clause-of
 returns-in-Ok-clause-of c =
     let q = option_map (λ f. f.now.graph) c.args.given in
-    same_ok c.of.result c.in-Ok.fit (λ (f : Fitting). IsOf (arc_value c.args.compiled.now) c.args.op c.args.side q f) c.of.ensures.ok
+    same_ok c.of.result c.in-Ok.fit (λ (f : Fitting). IsOf c.args.compiled.now.value c.args.op c.args.side q f) c.of.ensures.ok
     (record {
       interface_is = c.in-Ok.ensures.tied ∙ c.interface_of-interface.ensures;
       op_is = c.in-Ok.ensures.number;
@@ -44,7 +43,7 @@ returns-in-Ok-clause-of c =
 pub returns-in-Ok-clause-refused : goal.returns-in-Ok-clause-refused
 returns-in-Ok-clause-refused c o there =
     let q = option_map (λ f. f.now.graph) c.args.given in
-    same_err c.of.result refusal.Memory (IsTextCause (setting_beside (arc_value c.args.compiled.now) o c.args.side q) c.args.text.now) c.of.ensures.err tt
+    same_err c.of.result refusal.Memory (IsTextCause (setting_beside c.args.compiled.now.value o c.args.side q) c.args.text.now) c.of.ensures.err tt
 
 pub returns-in-Err-clause-refused : goal.returns-in-Err-clause-refused
 returns-in-Err-clause-refused c o there =
