@@ -62,7 +62,8 @@ enum dceidl_kind {
 };
 
 /* Why: the hundreds are the kind. Where the kind says all, the reason is 0. The line that dceidl_fault_line writes has the reason as a word, as
-   `BadOctet`, or the one in backquotes here; `dceidl why WORD`, a command of the program, explains it with an example. */
+   `BadOctet`, or the one in backquotes here; `dceidl why WORD`, a command of the program, explains it with an example. The pages of docs/ are in
+   the source tree, not among what is installed. */
 enum dceidl_reason {
     /* a file (docs/IDL.md) */
     DCEIDL_FILE_BAD_OCTET = 201,       /* an octet that cannot be there */
@@ -184,8 +185,10 @@ typedef struct {
     uint32_t place;  /* OCTETS, FRAGMENTS: the number of the octet that is refused, from 0; where octets are missing, how many there are */
     uint64_t line;   /* FILE, TEXT: the line and column, from 1, in octets */
     uint64_t column;
-    dceidl_number wanted; /* DISAGREES: the number that an attribute states, and the one that was found, both signed */
-    dceidl_number found;  /* TOO_LONG: the most octets that are allowed, and how many they would be */
+    /* wanted and found. DISAGREES: the number that an attribute states, and the one that is there, both signed. TOO_LONG: the most octets that are allowed,
+       and how many they would be. NEWER, for other numbers of a version or fewer operations: that of the older one, and that of the newer. */
+    dceidl_number wanted;
+    dceidl_number found;
 } dceidl_cause;
 
 /* What the fragments of a call state for all of it. */
@@ -271,7 +274,8 @@ uint32_t dceidl_values_of(dceidl_values *values, uint32_t *operation, uint32_t *
    are the same up to the numbers of their cells. EMPTY, SHORT, MEMORY. */
 uint32_t dceidl_text(dceidl_values *values, uint8_t *out, size_t room, size_t *length);
 
-/* Writes the octets of values, and sets their length. Each chunk of a pipe has `chunk` elements, except the last, which may have fewer.
+/* Writes the octets of values, and sets their length. Pointers are numbered anew and gaps are zero octets, so these may be other octets than those that
+   the values were decoded from. Each chunk of a pipe has `chunk` elements, except the last, which may have fewer; without pipes any chunk but 0 will do.
    REFUSED: they would be more than 67,108,864. EMPTY; ARGUMENT: order, or chunk is 0; SHORT; MEMORY. */
 uint32_t dceidl_encode(dceidl_values *values, uint32_t order, uint32_t chunk, uint8_t *out, size_t room, size_t *length, dceidl_fault *fault);
 
@@ -319,7 +323,8 @@ enum dceidl_node_kind {
     DCEIDL_ARRAY = 3,   /* elements that are numbers are no nodes, but copied by dceidl_node_numbers or dceidl_node_bytes; others are its parts */
     DCEIDL_STRING = 4,  /* dceidl_node_octets copies it */
     DCEIDL_UNION = 5,   /* its part is the value of the arm that the tag selects, if the arm has one */
-    DCEIDL_POINTER = 6, /* dceidl_cell_node gives the node that it points to; a reference pointer is one too, also as a parameter, with its own cell */
+    DCEIDL_POINTER = 6, /* dceidl_cell_node gives the node that it points to; a reference pointer is one too, also as a parameter, with its own cell: with
+                           [size_is(n)], the parameter `short a[*]` is an ARRAY, and `short *a` a POINTER to one */
     DCEIDL_CONTEXT = 7, /* a context handle; dceidl_node_octets copies its identifier */
     DCEIDL_PIPE = 8     /* all its elements, as those of an array */
 };
@@ -330,7 +335,8 @@ typedef struct {
     uint32_t parts;   /* how many parts are nodes */
     uint32_t count;   /* ARRAY, PIPE: how many elements there are */
     uint32_t numbers; /* ARRAY, PIPE: how many of these are numbers: all or none of them */
-    uint32_t max;     /* ARRAY, STRING: the maximum count, of a string with its end mark; if the bound is fixed, that bound */
+    uint32_t max;     /* ARRAY, STRING: the maximum count, of a string with its end mark; if the bound is fixed, that bound, and if not, no less than the
+                         elements, or the octets of a string and 1 */
     uint32_t offset;  /* ARRAY: the offset */
     uint64_t number;  /* NUMBER; UNION: the tag; POINTER: the cell, from 1, or 0 if it is null; CONTEXT: the attributes. It is in two's complement: of a
                          signed type the number is (int64_t)number */
@@ -362,8 +368,8 @@ uint32_t dceidl_node_after(dceidl_nodes *nodes, size_t number, size_t *after);
    parts, begin with the first and call dceidl_node_after. EMPTY; ARGUMENT: no such node, or it has no such part. */
 uint32_t dceidl_node_part(dceidl_nodes *nodes, size_t number, size_t index, size_t *part);
 
-/* Copies the elements of an array or a pipe that are numbers, and sets how many they are: 0 if the elements are no numbers. EMPTY; ARGUMENT: no such node,
-   or neither an array nor a pipe; SHORT. */
+/* Copies the elements of an array or a pipe that are numbers, each as the number of a node is, and sets how many they are: 0 if they are no numbers.
+   EMPTY; ARGUMENT: no such node, or neither an array nor a pipe; SHORT. */
 uint32_t dceidl_node_numbers(dceidl_nodes *nodes, size_t number, uint64_t *out, size_t room, size_t *count);
 
 /* The same, of each number its low 8 bits: all of it, if the elements have one octet. EMPTY; ARGUMENT; SHORT. */
@@ -383,8 +389,9 @@ uint32_t dceidl_cell_type(dceidl_values *values, uint32_t cell, uint32_t *type);
    No pointer is null, also where its count is 0: dceidl_some(NULL) serves for octets, and any object of the type for the others. */
 typedef struct {
     const dceidl_node *nodes; /* all nodes of the roots and then of the cells */
-    size_t node_count;        /* of nodes that were read: what dceidl_node_after sets of the last cell's node, or of the last root's without cells */
-    const uint64_t *numbers;  /* all elements of arrays and pipes that are numbers */
+    size_t node_count;        /* of nodes that were read: what dceidl_node_after sets of the last cell's node; of the last root's if there is no cell; 0 if
+                                 there is no root either */
+    const uint64_t *numbers;  /* all elements of arrays and pipes that are numbers, each as the number of a node is */
     size_t number_count;
     const uint8_t *octets;    /* the octets of all strings, without end marks, and of all identifiers of context handles */
     size_t octet_count;
