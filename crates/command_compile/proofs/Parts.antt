@@ -1,5 +1,6 @@
 -- What compiling two files answers, from what compiling each of them answers over its part of the call.
 use Rattle.std.proofs.Common.{◌≡◌, ◌∙◌, ℕ, ◌≤◌, List, ◌++◌, Option, Some, Result, Ok, Err, IfOk, IfErr, refl, ap, subst, inl, inr}
+use Rattle.idl_grammar.specs.Files.{Idl}
 use Rattle.nd_base.proofs.Rising.{rose_later}
 use Rattle.nd_base.specs.Over.{Rose, IsContent, IsMissing, FilesOver}
 use Rattle.nd_types.specs.declared.interface.Interface.{Interface}
@@ -38,7 +39,7 @@ pub record Follows (f g : FilesOver) : Type 0 where
   pub absences_later : f.absences.before ≤ f.absences.now
 
 -- what is compiled says nothing of counts
-compiled_as : (f g : FilesOver) → g.held ≡ f.held → g.asked ≡ f.asked → g.asked_now ≡ f.asked_now → (idl : List ℕ) (acf : Option (List ℕ)) (i : Interface)
+compiled_as : (f g : FilesOver) → g.held ≡ f.held → g.asked ≡ f.asked → g.asked_now ≡ f.asked_now → (idl : Idl) (acf : Option (List ℕ)) (i : Interface)
     → IsCompiled g idl acf i → IsCompiled f idl acf i
 compiled_as f g held asked now idl acf i c =
     let at : List (List ℕ) → List (List ℕ) → Contents → FilesOver = λ a n h. record { held = h; asked = a; asked_now = n; absences = f.absences; faults = f.faults } in
@@ -70,7 +71,7 @@ module _ (f g : FilesOver) (follows : Follows f g) where
   )
   second_cause new (BadIdl file line column why) (text, content, fault) = (
     text,
-    subst (λ (h : Contents). IsContent h new.idl text) follows.held content,
+    subst (λ (h : Contents). IsContent h new.idl.name text) follows.held content,
     subst (λ (h : Contents). IsIdlFault h new.idl text new.acf (BadIdl file line column why)) follows.held fault,
   )
   second_cause new NoOperation cause = absurd cause

@@ -1,5 +1,6 @@
 -- What `call` and `wrap` answer, step by step.
 use Rattle.std.proofs.Common.{◌≡◌, ◌∙◌, ℕ, ◌<◌, ◌≤◌, ◌^◌, List, length, Option, Some, Result, Ok, Err, IfOk, IfErr, refl, ap, sym, subst, inr, arith}
+use Rattle.idl_grammar.specs.Files.{Idl}
 use Rattle.nd_base.specs.declared.TheConstants.{STREAM_LIMIT}
 use Rattle.nd_base.specs.declared.octets.Order.{Order}
 use Rattle.nd_base.specs.Over.{FilesOver, SourceOver}
@@ -17,16 +18,16 @@ use Rattle.command_line.specs.declared.command.OrderWord.TheVariants.{Fixed}
 use Rattle.command_refusals.specs.declared.refusal.Refusal.{Refusal}
 use Rattle.dceidl.specs.Input.{IsLabelledEncoding, OfText, HasCalled, IsNoCall, IsWrapped, head_for}
 use Rattle.dceidl.specs.Ready.{IsFound, IsCallReady}
-use Rattle.dceidl.specs.declared.TheConstants.{WRAP_CHUNK}
+use Rattle.dceidl.specs.Input.{wrap_chunk}
 
 -- ## `call`
 
 -- an operation that was found is that of the response
-pub response_ready : (f : FilesOver) (idl : List ℕ) (acf : Option (List ℕ)) (op : List ℕ) (i : Interface) (n : ℕ) (o : Operation)
+pub response_ready : (f : FilesOver) (idl : Idl) (acf : Option (List ℕ)) (op : List ℕ) (i : Interface) (n : ℕ) (o : Operation)
     → IsFound f (record { idl = idl; acf = acf; op = op; side = Out }) i n o → IsCallReady f idl acf (Some op) i (Some n)
 response_ready f idl acf op i n o found = record { compiled = found.compiled; numbered = (n, o, found.named, refl) }
 
-module _ (f : FilesOver) (s : SourceOver) (idl : List ℕ) (acf op : Option (List ℕ)) (i : Interface) (number : Option ℕ) (ready : IsCallReady f idl acf op i number) where
+module _ (f : FilesOver) (s : SourceOver) (idl : Idl) (acf op : Option (List ℕ)) (i : Interface) (number : Option ℕ) (ready : IsCallReady f idl acf op i number) where
   pub called_done : (result : Result (List ℕ) Refusal) → IfOk result (IsCalled s i number) → IfOk result (HasCalled f s idl acf op)
   called_done (Ok made) h = (i, number, ready, h)
   called_done (Err e) h = tt
@@ -48,7 +49,7 @@ short_stub s w order chunk stub (text, read, e) = subst (λ (l : List ℕ). leng
 
 -- the fragments of what was encoded on this side
 pub wrapped_is : (f : FilesOver) (s : SourceOver) (of : Subject) (order : Order) (call max : ℕ) (i : Interface) (n : ℕ) (o : Operation) (side : Side)
-    (stub made : List ℕ) → side ≡ of.side → IsFound f of i n o → OfText s (λ text. IsLabelledEncoding (setting_of i o side) (Fixed order) WRAP_CHUNK text stub)
+    (stub made : List ℕ) → side ≡ of.side → IsFound f of i n o → OfText s (λ text. IsLabelledEncoding (setting_of i o side) (Fixed order) wrap_chunk text stub)
     → made ≡ Pieces order (head_for side n) call max stub → IsWrapped f s of order call max made
 wrapped_is f s of order call max i n o side stub made same found encoded is = record {
   interface = i;
@@ -56,6 +57,6 @@ wrapped_is f s of order call max i n o side stub made same found encoded is = re
   operation = o;
   found = found;
   stub = stub;
-  encoded = subst (λ (k : Side). OfText s (λ text. IsLabelledEncoding (setting_of i o k) (Fixed order) WRAP_CHUNK text stub)) same encoded;
+  encoded = subst (λ (k : Side). OfText s (λ text. IsLabelledEncoding (setting_of i o k) (Fixed order) wrap_chunk text stub)) same encoded;
   made_is = is ∙ ap (λ (k : Side). Pieces order (head_for k n) call max stub) same;
 }

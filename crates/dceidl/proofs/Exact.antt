@@ -1,5 +1,6 @@
 -- Which outcome a command has where no load fails and notes do not.
 use Rattle.std.proofs.Common.{◌≡◌, ℕ, ◌<◌, true, false, List, length, Option, Some, None, refl, sym, ◌∙◌, ap, subst, inl, inr, ◌⊎◌}
+use Rattle.idl_grammar.specs.Files.{Idl}
 use Rattle.nd_base.specs.declared.octets.Order.{Order}
 use Rattle.nd_base.specs.Over.{FilesOver, SourceOver, SinkOver, HasRisen, Got}
 use Rattle.nd_value.specs.Setting.{Setting}
@@ -24,7 +25,7 @@ use Rattle.nd_grammar.specs.Stream.{Represents}
 use Rattle.ndr_drain.specs.Drained.{pipe_count}
 use Rattle.command_drain.specs.Printed as draining
 use Rattle.command_drain.specs.Printed.{IsDrainRefusal}
-use Rattle.command_decode.specs.Decoded.{IsExplained, IsTraceCause, IsPrinted, IsInputCause}
+use Rattle.command_decode.specs.Decoded.{IsExplained, IsInputCause, IsPrinted, IsTraceCause, IsTracedWhole}
 use Rattle.command_encode.specs.Encoded.{IsTextCause}
 use Rattle.command_encode.proofs.OneText.{good_cause, fault_cause, misfit_cause}
 use Rattle.dceidl.specs.Causes.{IsMade, IsCause, IsWrittenBeside, IsUnexplained}
@@ -46,7 +47,7 @@ use Rattle.nd_value.specs.Fitting.{setting_of}
 use Rattle.command_call.specs.Called.{IsCalled, IsCallCause}
 use Rattle.dceidl.specs.Ready.{IsReady, IsNumbered, IsCallReady, IsCallUnready}
 use Rattle.dceidl.specs.Rows.{IsAccepted, IsCallAccepted, MustBeNoCall, MustBeNoFragments}
-use Rattle.dceidl.specs.declared.TheConstants.{WRAP_CHUNK}
+use Rattle.dceidl.specs.Input.{wrap_chunk}
 use Rattle.dceidl.proofs.Calls.{cause_over, called_over, refused_calls, refused_unmade, good_call, bad_stub, bad_unmade}
 use Rattle.dceidl.proofs.HeldFiles.{compiled_cause, no_idl, no_idl_cause, same_number, one_meaning, means_here, one_setting}
 use Rattle.dceidl.proofs.HeldFiles.{accepted_cause, unready, unready_cause}
@@ -195,10 +196,10 @@ module _ (s : SourceOver) (e : EndsSeen) (w : Setting) (legal : IsLegalSide w) w
         refused_value w legal order octets place why refused p.explanation.graph
         (whole_here rest octets input w order (λ os. Represents w order os p.explanation.graph) p.octets p.whole p.explanation.represents) p.explanation.conforms
     unmade Trace made (rest, other, opened, m) =
-        let p = subst (λ o. IsExplained rest w o made) (one_order s order octets word given rest other opened) m in
+        let p = subst (λ o. IsTracedWhole rest w o made) (one_order s order octets word given rest other opened) m in
         let input = given_after s order octets word given rest other opened in
-        refused_value w legal order octets place why refused p.explanation.graph
-        (whole_here rest octets input w order (λ os. Represents w order os p.explanation.graph) p.octets p.whole p.explanation.represents) p.explanation.conforms
+        refused_value w legal order octets place why refused p.trace.explanation.graph
+        (whole_here rest octets input w order (λ os. Represents w order os p.trace.explanation.graph) p.octets p.whole p.trace.explanation.represents) p.trace.explanation.conforms
     unmade Drain made (rest, other, opened, m) =
         let p = subst (λ o. draining.IsPrinted rest e w o made) (one_order s order octets word given rest other opened) m in
         let input = given_after s order octets word given rest other opened in
@@ -376,7 +377,7 @@ module _ (x : Seen) (loads : HasRisen x.files.faults → ⊥) where
   -- ## Calls
 
   -- a response to the operation of a name
-  abbrev response_to : List ℕ → Option (List ℕ) → List ℕ → Subject
+  abbrev response_to : Idl → Option (List ℕ) → List ℕ → Subject
   response_to idl acf name = record { idl = idl; acf = acf; op = name; side = Out }
 
   same_operation_number : (op : Option (List ℕ)) (i j : Interface) (n m : Option ℕ) → meant_by j ≡ meant_by i → IsNumbered j op m → IsNumbered i op n → m ≡ n
@@ -384,7 +385,7 @@ module _ (x : Seen) (loads : HasRisen x.files.faults → ⊥) where
   same_operation_number (Some name) i j n m e (k, o, named, is) (k', o', named', is') =
       is ∙ ap (λ (z : ℕ). Some z) (same_number j i name k k' o o' e named named') ∙ sym is'
 
-  module _ (idl : List ℕ) (acf : Option (List ℕ)) where
+  module _ (idl : Idl) (acf : Option (List ℕ)) where
     -- what it speaks of is not refused where it is accepted
     call_files : (op : Option (List ℕ)) (i : Interface) (number : Option ℕ) → IsCallAccepted x.files idl acf op i number → (r : Refusal)
         → IsCallUnready x.files idl acf op r → r ≡ Memory
@@ -478,7 +479,7 @@ module _ (x : Seen) (loads : HasRisen x.files.faults → ⊥) where
         → (r : Refusal) → IsNoWrap x.files x.input of r → P r
     of_wrap w a P wanting by r (inl (cause, before)) = subst P (sym (accepted_cause x.files of loads w a r cause)) wanting
     of_wrap w a P wanting by r (inr (v, ready, cause)) =
-        by r (subst (λ (u : Setting). IsInputEncodingCause x.input u WRAP_CHUNK r) (one_setting x.files of w v a ready) cause)
+        by r (subst (λ (u : Setting). IsInputEncodingCause x.input u wrap_chunk r) (one_setting x.files of w v a ready) cause)
 
     module _ (call max : ℕ) where
       wrap_ready : (made : List ℕ) → (m : IsWrapped x.files x.input of order call max made) → IsReady x.files of (setting_of m.interface m.operation of.side)

@@ -1,6 +1,7 @@
 -- What the commands on values make of texts and of the input, and why these are refused.
 use Rattle.std.specs.Prelude.{◌≡◌, ◌⊎◌, ℕ, ◌+◌, ◌<◌, ◌≤◌, true, List, [], ◌∷◌, ◌++◌, length, Option, Some, None, Ok, ⊤}
 use Rattle.std.specs.Io.KnownBytes.{Consumes, IsAtEnd}
+use Rattle.idl_grammar.specs.Files.{Idl}
 use Rattle.nd_base.specs.declared.octets.Order.{Order}
 use Rattle.nd_base.specs.Over.{FilesOver, SourceOver, HasRisen, IsUntouched}
 use Rattle.nd_types.specs.declared.interface.Interface.{Interface}
@@ -29,11 +30,10 @@ use Rattle.command_line.specs.Words.{order_in, Subject}
 use Rattle.command_refusals.specs.declared.refusal.Refusal.{Refusal}
 use Rattle.command_refusals.specs.declared.refusal.Refusal.TheVariants.{TooLong, Memory, ReadFault}
 use Rattle.command_streams.specs.Input.{IsLabelCause, AreRead}
-use Rattle.command_decode.specs.Decoded.{IsExplained, IsTraceCause, IsPrinted, IsInputCause}
+use Rattle.command_decode.specs.Decoded.{IsExplained, IsInputCause, IsPrinted, IsTraceCause, IsTracedWhole}
 use Rattle.command_encode.specs.Encoded.{IsWritten, IsLong, IsTextCause, beside, HoldsRequest, HoldsNoRequest}
 use Rattle.command_call.specs.Called.{IsCalled, IsCallCause}
 use Rattle.command_drain.specs.Printed as draining
-use Rattle.dceidl.specs.declared.TheConstants.{WRAP_CHUNK}
 use Rattle.dceidl.specs.Ready.{IsFound, IsReady, IsReadyCause, IsCallReady, IsCallUnready}
 
 -- ## What is made of a text
@@ -105,7 +105,7 @@ pub record IsAfterLabel (s rest : SourceOver) (order : Order) : Type 0 where
   pub taken : Consumes s.left rest.left label
   pub is_label : IsLabel Label label order
   pub left_now : rest.left_now ≡ s.left_now
-  pub ended : rest.ended ≡ s.ended
+  pub ended : rest.ended_now ≡ s.ended_now
   pub faults : rest.faults.now ≡ s.faults.now
   pub later : s.faults.before ≤ rest.faults.before
 
@@ -123,7 +123,7 @@ IsUnopened Label s r = IsLabelCause s r
 abbrev pub IsMadeReading : Reading → SourceOver → EndsSeen → Setting → Order → List ℕ → Type 0
 IsMadeReading Decode s e w order made = IsPrinted s w order made
 IsMadeReading Explain s e w order made = IsExplained s w order made
-IsMadeReading Trace s e w order made = IsExplained s w order made
+IsMadeReading Trace s e w order made = IsTracedWhole s w order made
 IsMadeReading Drain s e w order made = draining.IsPrinted s e w order made
 
 -- why these octets are refused
@@ -164,20 +164,24 @@ IsBesideCause f s e name task w r =
 -- ### `call`
 
 -- the files mean an interface, and the input is printed as a call
-abbrev pub HasCalled : FilesOver → SourceOver → List ℕ → Option (List ℕ) → Option (List ℕ) → List ℕ → Type 0
+abbrev pub HasCalled : FilesOver → SourceOver → Idl → Option (List ℕ) → Option (List ℕ) → List ℕ → Type 0
 HasCalled f s idl acf op made = (i : Interface) × (number : Option ℕ) × IsCallReady f idl acf op i number × IsCalled s i number made
 
 -- why it is not: the files are refused before the input is touched, or the input is
-abbrev pub IsNoCall : FilesOver → SourceOver → List ℕ → Option (List ℕ) → Option (List ℕ) → Refusal → Type 0
+abbrev pub IsNoCall : FilesOver → SourceOver → Idl → Option (List ℕ) → Option (List ℕ) → Refusal → Type 0
 IsNoCall f s idl acf op r =
     (IsCallUnready f idl acf op r × IsUntouched s)
     ⊎ ((i : Interface) × (number : Option ℕ) × IsCallReady f idl acf op i number × IsCallCause s i number r)
 
 -- ### `wrap`
 
--- the values are encoded in this order, with large chunks
+-- a chunk of a pipe has as many elements as there are left, and at most so many
+abbrev pub wrap_chunk : ℕ
+wrap_chunk = 65536
+
+-- the values are encoded in this order
 abbrev pub wrap_task : Order → Task
-wrap_task order = Encode (Fixed order) WRAP_CHUNK
+wrap_task order = Encode (Fixed order) wrap_chunk
 
 -- inputs are of a request, which states the number of its operation, and outputs of a response
 abbrev pub head_for : Side → ℕ → Head
@@ -196,10 +200,10 @@ pub record IsWrapped (f : FilesOver) (s : SourceOver) (of : Subject) (order : Or
   pub operation : Operation
   pub found : IsFound f of interface number operation
   pub stub : List ℕ
-  pub encoded : OfText s (λ text. IsLabelledEncoding (setting_of interface operation of.side) (Fixed order) WRAP_CHUNK text stub)
+  pub encoded : OfText s (λ text. IsLabelledEncoding (setting_of interface operation of.side) (Fixed order) wrap_chunk text stub)
   pub made_is : made ≡ Pieces order (head_for of.side number) call max stub
 
 -- why nothing is written: as the text is not encoded
 abbrev pub IsNoWrap : FilesOver → SourceOver → Subject → Refusal → Type 0
 IsNoWrap f s of r =
-    (IsReadyCause f of r × IsUntouched s) ⊎ ((w : Setting) × IsReady f of w × IsInputEncodingCause s w WRAP_CHUNK r)
+    (IsReadyCause f of r × IsUntouched s) ⊎ ((w : Setting) × IsReady f of w × IsInputEncodingCause s w wrap_chunk r)

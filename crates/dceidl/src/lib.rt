@@ -37,9 +37,11 @@ usage: dceidl compile IDL ACF
        dceidl call IDL ACF OP
        dceidl wrap IDL ACF OP SIDE ORDER CALL MAX
        dceidl compat OLD OLDACF NEW NEWACF [why]
+       dceidl windows COMMAND ..
        dceidl session
        dceidl sample SEED COUNT
        dceidl why [WORD ..]
+       dceidl help [COMMAND]
        dceidl --help
        dceidl --version
 
@@ -71,6 +73,9 @@ compat   compares two versions of an interface, and writes how many operations
          the file OLD has if each of them has the same octets for the same
          values in the file NEW. With `why`, if an operation differs, it also
          writes the first place at which it does.
+windows  does one of the commands above with files of IDL in the windows
+         language, in which `any_size` and `any_length` are attributes: counts
+         that nothing states.
 session  reads a script of lines, `open CLIENT UUID`, `use UUID TEXT`,
          `close UUID` and `down CLIENT`, and does what they say with the files
          res0.out to res7.out of the current folder: opens the next one under
@@ -81,6 +86,7 @@ sample   makes a graph of COUNT cells from SEED, encodes and decodes it, and
 why      writes what a word of an error's line means, with an example and what
          to do, as for `why Rule 30` or `why status 5`. Without words it lists
          all.
+help     writes which words COMMAND takes, and what they may be.
 
 IDL      the path of a file of IDL
 ACF      the path of an attribute configuration file, or `-` for none

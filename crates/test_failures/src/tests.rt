@@ -1,8 +1,8 @@
 // Each call fails in turn, until a run makes no such call.
 use crate::commands::{
-    CALL_REQUEST, COMPILE, Call, Command, DECODE, DECODE_CUT, DECODE_RESPONSE, DRAIN, DRAIN_CUT,
-    DRAIN_RESPONSE, DRAIN_TRAILING, DRAIN_TWO, ENCODE, ENCODE_REFUSED, ENCODE_RESPONSE, EXPLAIN,
-    EXPLAIN_RESPONSE, NO_COMMAND, NO_WORDS, WRAP,
+    CALL_REFUSED, CALL_REQUEST, COMPILE, Call, Command, DECODE, DECODE_CUT, DECODE_RESPONSE, DRAIN,
+    DRAIN_CUT, DRAIN_RESPONSE, DRAIN_TRAILING, DRAIN_TWO, ENCODE, ENCODE_REFUSED, ENCODE_RESPONSE,
+    EXPLAIN, EXPLAIN_RESPONSE, NO_COMMAND, NO_WORDS, WRAP,
 };
 use crate::runs::{
     AMPLE, Failing, NONE, Ran, call_of, call_past, calls_by, is_finished, lines_of, run_command,
@@ -511,6 +511,17 @@ fn each_fetch_of_a_response_fails(rt: HostRuntime) {
     fetches_fail(&rt, rt.alloc(), &DECODE_RESPONSE);
     fetches_fail(&rt, rt.alloc(), &EXPLAIN_RESPONSE);
     fetches_fail(&rt, rt.alloc(), &DRAIN_RESPONSE);
+}
+
+#[test]
+fn each_fetch_of_a_call_fails(rt: HostRuntime) {
+    fetches_fail(&rt, rt.alloc(), &CALL_REQUEST);
+    fetches_fail(&rt, rt.alloc(), &CALL_REFUSED);
+}
+
+#[test]
+fn each_fetch_of_a_wrapping_fails(rt: HostRuntime) {
+    fetches_fail(&rt, rt.alloc(), &WRAP);
 }
 
 #[test]
