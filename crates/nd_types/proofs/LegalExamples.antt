@@ -85,9 +85,7 @@ sums_are_legal = record {
   variables = refl;
   sized = refl;
   one_size = refl;
-  conformant_sized = refl;
   varying = refl;
-  varying_sized = refl;
   one_length = refl;
   count_variables = refl;
   switched = refl;
@@ -147,9 +145,7 @@ directory_is_legal = record {
   variables = refl;
   sized = refl;
   one_size = refl;
-  conformant_sized = refl;
   varying = refl;
-  varying_sized = refl;
   one_length = refl;
   count_variables = refl;
   switched = refl;
@@ -167,7 +163,8 @@ directory_is_legal = record {
   few_parts = lit≤ tt;
 }
 
--- Pipes, context handles, arrays of two dimensions, varying arrays, attributes with stars and an encapsulated union with a default.
+-- Pipes, context handles, arrays of two dimensions, varying arrays, attributes with stars and an encapsulated union with a default; arrays whose counts
+-- nothing states.
 abbrev pub others : Table
 others =
     with (Pipe (id 13) ∷ Struct (field 14 [] ∷ field 16 [] ∷ []) ∷ Array (id 15) (Some 2) false ∷ Array (id 5) (Some 3) false
@@ -178,7 +175,8 @@ abbrev pub others_operations : List Operation
 others_operations =
     operation (param way.In 12 [] ∷ param way.InOut 17 [] ∷ param way.In 11 [] ∷ param way.Out 18 [] ∷ []) None
     ∷ operation (param way.InOut 19 [] ∷ param way.In 7 [] ∷ param way.In 20 (by_star Size 0 ∷ by First 1 ∷ by Length 1 ∷ [])
-    ∷ param way.InOut 21 (by_star Max 0 ∷ by_star Last 0 ∷ []) ∷ param way.Out 22 (by Last 1 ∷ []) ∷ []) (Some (id 7)) ∷ []
+    ∷ param way.InOut 21 (by_star Max 0 ∷ by_star Last 0 ∷ []) ∷ param way.Out 22 (by Last 1 ∷ []) ∷ []) (Some (id 7))
+    ∷ operation (param way.In 7 [] ∷ param way.In 20 [] ∷ param way.In 21 (by Length 0 ∷ []) ∷ param way.In 22 [] ∷ []) None ∷ []
 
 pub others_are_legal : IsLegal others others_operations
 unfolding hoists is_shallow element_count fits_pipes
@@ -210,9 +208,7 @@ others_are_legal = record {
   variables = refl;
   sized = refl;
   one_size = refl;
-  conformant_sized = refl;
   varying = refl;
-  varying_sized = refl;
   one_length = refl;
   count_variables = refl;
   switched = refl;
@@ -419,10 +415,6 @@ size_of_fixed h = refused h.sized refl
 pub size_and_max : IsLegal (with (Array (id 7) None false ∷ [])) (operation (param way.In 7 [] ∷ param way.In 12 (by Size 0 ∷ by Max 0 ∷ []) ∷ []) None ∷ []) → ⊥
 size_and_max h = refused h.one_size refl
 
--- a conformant array without size_is and max_is
-pub unsized : IsLegal (with (Array (id 7) None false ∷ [])) (taking way.In 12 []) → ⊥
-unsized h = refused h.conformant_sized refl
-
 -- length_is on an array that does not vary
 pub length_of_fixed : IsLegal (with (Array (id 7) (Some 2) false ∷ [])) (operation (param way.In 7 [] ∷ param way.In 12 (by Length 0 ∷ []) ∷ []) None ∷ []) → ⊥
 length_of_fixed h = refused h.varying refl
@@ -430,10 +422,6 @@ length_of_fixed h = refused h.varying refl
 -- length_is on a text
 pub length_of_text : IsLegal (with (Text (id 1) (Some 2) ∷ [])) (operation (param way.In 7 [] ∷ param way.In 12 (by Length 0 ∷ []) ∷ []) None ∷ []) → ⊥
 length_of_text h = refused h.varying refl
-
--- length_is on a pointer without size_is
-pub length_of_pointer : IsLegal (with (Array (id 7) None true ∷ Pointer Ref (id 12) ∷ [])) (operation (param way.In 7 [] ∷ param way.In 13 (by Length 0 ∷ []) ∷ []) None ∷ []) → ⊥
-length_of_pointer h = refused h.varying_sized refl
 
 -- length_is beside last_is
 pub length_and_last : IsLegal (with (Array (id 7) None true ∷ [])) (operation (param way.In 7 [] ∷ param way.In 12 (by Size 0 ∷ by Length 0 ∷ by Last 0 ∷ []) ∷ []) None ∷ []) → ⊥

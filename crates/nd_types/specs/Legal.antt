@@ -301,12 +301,8 @@ pub record IsLegal (types : Table) (operations : List Operation) : Type 0 where
       (λ p. implies (has_size p.field)
       (is_conformant_array (subject_type types p.field) || is_conformant_text (subject_type types p.field))) types operations ≡ true
   pub one_size : all_fields (λ p. not (has_attr Size p.field && has_attr Max p.field)) types operations ≡ true
-  -- A field that is itself a conformant array has one of them.
-  pub conformant_sized : all_fields (λ p. implies (is_conformant_array (type_at types p.field.of.0)) (has_size p.field)) types operations ≡ true
-  -- first_is, length_is and last_is stand only on a varying array, or on a pointer to one that has size_is or max_is; length_is and last_is not both.
+  -- first_is, length_is and last_is stand only on a varying array or a pointer to one; length_is and last_is not both.
   pub varying : all_fields (λ p. implies (has_range_attr p.field) (is_varying_array (subject_type types p.field))) types operations ≡ true
-  pub varying_sized : all_fields (λ p. implies (has_range_attr p.field) (is_array (type_at types p.field.of.0) || has_size p.field)) types operations
-      ≡ true
   pub one_length : all_fields (λ p. not (has_attr Length p.field && has_attr Last p.field)) types operations ≡ true
   -- The variable of any of these five is an integer, or with a star a parameter that is a reference pointer to one.
   pub count_variables : all_fields (all_variables (λ a. not (is_switch_attr a)) is_integer types) types operations ≡ true
