@@ -26,7 +26,7 @@ use Rattle.command_call.specs.Called.{IsCall, IsCalled, IsCallCause, IsUnjoined,
 
 -- a source over one step and then over another
 abbrev pub over : SourceOver → SourceOver → SourceOver
-over s t = record { left = s.left; left_now = t.left_now; ended = t.ended; faults = record { before = s.faults.before; now = t.faults.now } }
+over s t = record { left = s.left; left_now = t.left_now; ended_now = t.ended_now; faults = record { before = s.faults.before; now = t.faults.now } }
 
 -- ## Fragments
 

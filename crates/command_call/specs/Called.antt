@@ -130,7 +130,7 @@ IsUnjoined want s _ = ⊥
 -- nothing was taken, as the source has ended
 pub record IsEnd (s : SourceOver) : Type 0 where
   pub nothing : Consumes s.left s.left_now []
-  pub ended : s.ended ≡ true
+  pub ended : s.ended_now ≡ true
   pub none_left : IsAtEnd s.left_now
 
 -- why the end was not met after so many octets: an octet was taken, or the source failed

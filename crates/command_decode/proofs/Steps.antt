@@ -28,7 +28,7 @@ use Rattle.command_decode.specs.Taken.{IsTaken, IsEnd, IsNoEnd}
 
 -- a source over one step and then over another
 abbrev pub over : SourceOver → SourceOver → SourceOver
-over s t = record { left = s.left; left_now = t.left_now; ended = t.ended; faults = record { before = s.faults.before; now = t.faults.now } }
+over s t = record { left = s.left; left_now = t.left_now; ended_now = t.ended_now; faults = record { before = s.faults.before; now = t.faults.now } }
 
 -- ## Decoding
 

@@ -45,7 +45,7 @@ pub record IsDecoding (w : Setting) (order : Order) (octets text : List ℕ) : T
 -- These octets were taken of the source, and are all that it gives.
 pub record IsWhole (s : SourceOver) (octets : List ℕ) : Type 0 where
   pub taken : Consumes s.left s.left_now octets
-  pub ended : s.ended ≡ true
+  pub ended : s.ended_now ≡ true
   pub none_left : IsAtEnd s.left_now
 
 -- The source was read to its end, and its octets are decoded to this text.
@@ -62,7 +62,7 @@ pub record IsRefusedInput (s : SourceOver) (w : Setting) (order : Order) (place 
   pub bad : Bad w order octets place why
   pub ends : length octets ≡ fetched_to why (length octets) bad.here
   pub stays : (more : List ℕ) → MayFollow why more → Bad w order (octets ++ more) place why
-  pub ended : why ≡ reason.Truncated → (s.ended ≡ true) × IsAtEnd s.left_now
+  pub ended : why ≡ reason.Truncated → (s.ended_now ≡ true) × IsAtEnd s.left_now
 
 -- The octets that were taken are a stream of a graph that conforms, and one octet more.
 pub record IsTrailedInput (s : SourceOver) (w : Setting) (order : Order) (place : ℕ) : Type 0 where

@@ -29,7 +29,7 @@ use Rattle.command_drain.specs.Taken.{IsNotTaken, IsTaken}
 
 -- a source over one step and then over another
 abbrev pub over : SourceOver → SourceOver → SourceOver
-over s u = record { left = s.left; left_now = u.left_now; ended = u.ended; faults = record { before = s.faults.before; now = u.faults.now } }
+over s u = record { left = s.left; left_now = u.left_now; ended_now = u.ended_now; faults = record { before = s.faults.before; now = u.faults.now } }
 
 -- ## The drain
 

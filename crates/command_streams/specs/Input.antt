@@ -14,7 +14,7 @@ use Rattle.command_refusals.specs.declared.refusal.Refusal.TheVariants.{Memory, 
 pub record AreRead (s : SourceOver) (limit : ℕ) (octets : List ℕ) : Type 0 where
   pub taken : Consumes s.left s.left_now octets
   pub few : length octets ≤ limit + 1
-  pub whole : length octets < limit + 1 → s.ended ≡ true
+  pub whole : length octets < limit + 1 → s.ended_now ≡ true
   pub none_left : length octets < limit + 1 → IsAtEnd s.left_now
 
 -- why the input was not read; running out of memory needs no cause
@@ -58,7 +58,7 @@ pub record IsShortLabel (s : SourceOver) : Type 0 where
   pub label : List ℕ
   pub taken : Consumes s.left s.left_now label
   pub short : length label < 4
-  pub ended : s.ended ≡ true
+  pub ended : s.ended_now ≡ true
   pub none_left : IsAtEnd s.left_now
 
 -- why there is no label

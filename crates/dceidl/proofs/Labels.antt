@@ -25,7 +25,7 @@ use Rattle.nd_lemmas.proofs.Lists.{take_front}
 
 -- a source over a call
 abbrev pub over : Option (List ℕ) → Option (List ℕ) → Bool → ℕ → ℕ → SourceOver
-over left now ended before after = record { left = left; left_now = now; ended = ended; faults = record { before = before; now = after } }
+over left now ended before after = record { left = left; left_now = now; ended_now = ended; faults = record { before = before; now = after } }
 
 -- ## What is read after a label, and in an order that the command names
 

@@ -105,7 +105,7 @@ pub record IsAfterLabel (s rest : SourceOver) (order : Order) : Type 0 where
   pub taken : Consumes s.left rest.left label
   pub is_label : IsLabel Label label order
   pub left_now : rest.left_now ≡ s.left_now
-  pub ended : rest.ended ≡ s.ended
+  pub ended : rest.ended_now ≡ s.ended_now
   pub faults : rest.faults.now ≡ s.faults.now
   pub later : s.faults.before ≤ rest.faults.before
 

@@ -154,7 +154,7 @@ impl Source for StandardInput {
 
     #[inline(always)]
     fn fill(&mut self, buf: &mut [u8]) -> bool {
-        if buf.is_empty() {
+        if self.ended || buf.is_empty() {
             return false;
         }
         if self.in_first < buf.len() {

@@ -16,7 +16,7 @@ IsFailed s (fault.Truncated place) = ⊥
 
 -- the source has ended at a place, before all octets came
 pub record HasEnded (s : SourceOver) (at place : ℕ) (os : List ℕ) : Type 0 where
-  pub ended : s.ended ≡ true
+  pub ended : s.ended_now ≡ true
   pub none_left : IsAtEnd s.left_now
   pub there : place ≡ at + length os
 

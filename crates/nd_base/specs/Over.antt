@@ -35,6 +35,11 @@ pub record StaysEnded {E : Type 0} (before now : Bool) (result : Result ℕ E) (
   pub stays : before ≡ true → now ≡ true
   pub nothing : (n : ℕ) → before ≡ true → result ≡ Ok n → n ≡ 0
 
+-- What fills a whole buffer: after the end nothing comes, and the end stays.
+pub record FillsBeforeEnd (before now : Bool) (buf : List ℕ) : Type 0 where
+  pub stays : before ≡ true → now ≡ true
+  pub nothing : before ≡ true → buf ≡ []
+
 -- what is left of what a reader shows: nothing once the end was met
 abbrev pub left_at : Bool → Option (List ℕ) → Option (List ℕ)
 left_at false left = left
@@ -116,18 +121,18 @@ pub record SourceSeen : Type 0 where
   -- how often it failed
   pub faults : ℕ
 
--- a source over a call
+-- a source over a call: what was left before it and after it, and whether the end was met by then
 pub record SourceOver : Type 0 where
   pub left : Option (List ℕ)
   pub left_now : Option (List ℕ)
-  pub ended : Bool
+  pub ended_now : Bool
   pub faults : Count
 
 abbrev pub source_over : {S : Type 0} → (S → SourceSeen) → S → S → SourceOver
 source_over seen before now = record {
   left = (seen before).left;
   left_now = (seen now).left;
-  ended = (seen now).ended;
+  ended_now = (seen now).ended;
   faults = record { before = (seen before).faults; now = (seen now).faults };
 }
 

@@ -170,7 +170,7 @@ module _ (values : List EnumList) (order : Order) (code : List Instr) (table : T
     taken_of e logged = took_some source notes s0 e.s (octets_of e) e.noted e.left (all_is_part notes s0 e.s e.noted logged)
 
     refused_of : (e : Comes) (place : ℕ) (why : Reason) → IsRefusedHere order (f0 ++ octets_of e) (n0 ++ e.noted) (length e.s.cells) direct target place why → AreNeeded target f0 (octets_of e)
-        → IsLogged e.noted s0 e.s notes → (why ≡ reason.Truncated → source.ended ≡ true) → (why ≡ reason.Truncated → IsAtEnd source.left_now) → IsRefusedIn place why
+        → IsLogged e.noted s0 e.s notes → (why ≡ reason.Truncated → source.ended_now ≡ true) → (why ≡ reason.Truncated → IsAtEnd source.left_now) → IsRefusedIn place why
     refused_of e place why x needs logged ended at_end = record {
       octets = octets_of e;
       items = e.noted;

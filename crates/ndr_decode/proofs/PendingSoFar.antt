@@ -32,7 +32,7 @@ use Rattle.ndr_decode.proofs.Standing.{then_fault, then_went_taking, went_nowher
 -- ## Calls one after the other
 
 abbrev pub source_by : Option (List ℕ) → Option (List ℕ) → Bool → ℕ → ℕ → SourceOver
-source_by l l' e f f' = record { left = l; left_now = l'; ended = e; faults = record { before = f; now = f' } }
+source_by l l' e f f' = record { left = l; left_now = l'; ended_now = e; faults = record { before = f; now = f' } }
 
 followed : (l0 l1 l2 : Option (List ℕ)) (e1 e2 : Bool) (f0 f1 f2 : ℕ) (g0 g1 g2 : Logged) (k0 k1 k2 : ℕ)
     → Follows (source_by l0 l1 e1 f0 f1) (source_by l1 l2 e2 f1 f2) (source_by l0 l2 e2 f0 f2) (decoding_seen g0 g1 k0 k1) (decoding_seen g1 g2 k1 k2) (decoding_seen g0 g2 k0 k2)

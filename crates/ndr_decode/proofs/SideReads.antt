@@ -115,7 +115,7 @@ module _ (plan : Plan) (number : ℕ) (way : Side) (order : Order) (w : Setting)
           → FaultOf the_head w order [] [] (cells_of x) a s (fault.Bad place why)
       refused_after place why e =
           let ag = stands_after.agrees in
-          let follows : Follows a (idle_source a.left_now a.ended a.faults) a s (idle_log s.log_now s.steps_now) s = record {
+          let follows : Follows a (idle_source a.left_now a.ended_now a.faults) a s (idle_log s.log_now s.steps_now) s = record {
             before = refl;
             middle = refl;
             after = refl;
@@ -128,9 +128,9 @@ module _ (plan : Plan) (number : ℕ) (way : Side) (order : Order) (w : Setting)
             steps_now = refl;
           } in
           let none : a.faults.before ≤ a.faults.before = omega arith in
-          then_fault w legal order [] [] (cells_of x) a (idle_source a.left_now a.ended a.faults) a s (idle_log s.log_now s.steps_now) s follows went.0.octets went.0.items (cells_of y) went.0.took
+          then_fault w legal order [] [] (cells_of x) a (idle_source a.left_now a.ended_now a.faults) a s (idle_log s.log_now s.steps_now) s follows went.0.octets went.0.items (cells_of y) went.0.took
           the_head none refl (fault.Bad place why)
-          (refused_here a.left_now a.ended a.faults s.log_now s.steps_now w legal order went.0.octets went.0.items went.0.direct (between_of y) went.0.s went.0.seen [] 0
+          (refused_here a.left_now a.ended_now a.faults s.log_now s.steps_now w legal order went.0.octets went.0.items went.0.direct (between_of y) went.0.s went.0.seen [] 0
           (cells_of y) y.machine.at place why
           (cells_are y) ag (never_cut y.cells.items y.roots.items w.given place why (drop at plan.code) e)
           (parameter_fails w legal order went.0.octets went.0.items went.0.direct (between_of y) went.0.s went.0.seen ag plan.code at (checks_here at here) (place, why) e))

@@ -44,7 +44,7 @@ use Rattle.ndr_decoder_stream.proofs.Counting.{none_noted}
 
 -- a source and a log that stay as they are
 abbrev pub idle_source : Option (List ℕ) → Bool → Count → SourceOver
-idle_source o ended faults = record { left = o; left_now = o; ended = ended; faults = faults }
+idle_source o ended faults = record { left = o; left_now = o; ended_now = ended; faults = faults }
 
 abbrev pub idle_log : Logged → ℕ → DecodingSeen
 idle_log g k = record { log = g; log_now = g; steps = k; steps_now = k }

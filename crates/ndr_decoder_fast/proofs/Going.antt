@@ -25,7 +25,7 @@ use Rattle.ndr_decoder_fast.specs.Strings.{HasCome, GoesFar}
 
 -- a source over a call
 abbrev pub source : Option (List ℕ) → Option (List ℕ) → Bool → ℕ → ℕ → SourceOver
-source left left_now ended before now = record { left = left; left_now = left_now; ended = ended; faults = record { before = before; now = now } }
+source left left_now ended before now = record { left = left; left_now = left_now; ended_now = ended; faults = record { before = before; now = now } }
 
 pub ticks_on : (xs ys : List Item) → ticks (xs ++ ys) ≡ ticks xs + ticks ys
 ticks_on [] ys = omega arith

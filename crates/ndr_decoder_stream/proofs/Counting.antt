@@ -120,7 +120,7 @@ module _ (w : Setting) (order : Order) (fetched : List ℕ) (noted : List Item) 
         record { octets = os; items = []; n' = m.cells; cut = c; took = none_taken }
 
     refused_here : (place : ℕ) (why : Reason) → (read_stream w order (fetched ++ os)).progress ≡ stopped k.at k.seen (place, why) → IsNeeded w order (fetched ++ os)
-        → (why ≡ reason.Truncated → source.ended ≡ true) → (why ≡ reason.Truncated → IsAtEnd source.left_now) → Refused the_stream w order fetched noted m.cells source t place why
+        → (why ≡ reason.Truncated → source.ended_now ≡ true) → (why ≡ reason.Truncated → IsAtEnd source.left_now) → Refused the_stream w order fetched noted m.cells source t place why
     refused_here place why stop needed ended at_end =
         let c : StreamRefused the_stream w order (fetched ++ os) (noted ++ []) m.cells place why =
         record { octets = both; at = k.at; seen = k.seen; stops = stop; items_are = items_are; needed = needed; cells = cells } in
@@ -147,7 +147,7 @@ module _ (w : Setting) (order : Order) (fetched : List ℕ) (noted : List Item) 
         }
 
     -- the source has ended there
-    short_here : (place : ℕ) → AreCut → place ≡ m.at + length os → source.ended ≡ true → IsAtEnd source.left_now → Refused the_stream w order fetched noted m.cells source t place reason.Truncated
+    short_here : (place : ℕ) → AreCut → place ≡ m.at + length os → source.ended_now ≡ true → IsAtEnd source.left_now → Refused the_stream w order fetched noted m.cells source t place reason.Truncated
     short_here place cuts there ended at_end =
         let size : length (fetched ++ os) ≡ length fetched + length os = length-append fetched os in
         let reached : length fetched ≡ k.at = p.stands.reached in

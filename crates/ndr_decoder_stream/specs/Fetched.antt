@@ -22,7 +22,7 @@ stream_answer (Err (intake.Truncated place)) = Err (fault.Bad place reason.Trunc
 
 -- the source has ended before so many octets came
 abbrev pub IsShort : ℕ → ℕ → SourceOver → List ℕ → ℕ → Type 0
-IsShort count at s os place = (length os < count) × (place ≡ at + length os) × (s.ended ≡ true) × IsAtEnd s.left_now
+IsShort count at s os place = (length os < count) × (place ≡ at + length os) × (s.ended_now ≡ true) × IsAtEnd s.left_now
 
 abbrev pub GapBad : ℕ → SourceOver → List ℕ → ℕ → Reason → Type 0
 GapBad at s os place reason.Truncated = IsShort (gap at 4) at s os place

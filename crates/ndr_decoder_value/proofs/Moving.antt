@@ -33,7 +33,7 @@ all_noted_on (x ∷ xs) ys g = all_noted_on xs ys (noted x g)
 
 -- a source over a call
 abbrev pub source : Option (List ℕ) → Option (List ℕ) → Bool → ℕ → ℕ → SourceOver
-source left left_now ended before now = record { left = left; left_now = left_now; ended = ended; faults = record { before = before; now = now } }
+source left left_now ended before now = record { left = left; left_now = left_now; ended_now = ended; faults = record { before = before; now = now } }
 
 -- ## Turns
 

@@ -73,7 +73,7 @@ module _ (values : List EnumList) (order : Order) (code : List Instr) (h : Home)
   EndsBad place reason.Truncated =
       (e : End values order code h s0 source)
       × (IsCut (wants values e.i e.s) e.os e.s.at
-      × ((place ≡ e.s.at + length e.os) × ((source.ended ≡ true) × (IsAtEnd source.left_now × IsLogged e.noted s0 e.s notes))))
+      × ((place ≡ e.s.at + length e.os) × ((source.ended_now ≡ true) × (IsAtEnd source.left_now × IsLogged e.noted s0 e.s notes))))
   EndsBad place why =
       (e : End values order code h s0 source)
       × (HasOctets (wants values e.i e.s) e.os e.s.at × ((step values order e.os e.i e.s ≡ refused place why) × IsLogged e.noted s0 e.s notes))
@@ -116,7 +116,7 @@ stream_answer (Err (intake.Truncated place)) = Err (fault.Bad place reason.Trunc
 -- source has ended, or failed, before the last of them.
 abbrev pub FetchesBad : Want → ℕ → SourceOver → List ℕ → ℕ → Reason → Type 0
 FetchesBad w at source os place reason.TooLong = IsTooLong w at × ((os ≡ []) × (place ≡ STREAM_LIMIT))
-FetchesBad w at source os place reason.Truncated = IsCut w os at × ((place ≡ at + length os) × ((source.ended ≡ true) × IsAtEnd source.left_now))
+FetchesBad w at source os place reason.Truncated = IsCut w os at × ((place ≡ at + length os) × ((source.ended_now ≡ true) × IsAtEnd source.left_now))
 FetchesBad w at source os place why = ⊥
 
 abbrev pub Fetches : Want → ℕ → SourceOver → List ℕ → Result (Unit {0}) DecodeFault → Type 0

@@ -160,7 +160,7 @@ Consumes-trans (Some xs) (Some ys) None a b h k = absurd k
 Consumes-trans (Some xs) (Some ys) (Some zs) a b h k = h ∙ ap (λ l. a ++ l) k ∙ sym (append_assoc a b zs)
 
 abbrev pub over : Option (List ℕ) → Option (List ℕ) → Bool → ℕ → ℕ → SourceOver
-over left left_now ended before now = record { left = left; left_now = left_now; ended = ended; faults = record { before = before; now = now } }
+over left left_now ended before now = record { left = left; left_now = left_now; ended_now = ended; faults = record { before = before; now = now } }
 
 abbrev pub ends_to : List EndSeen → List EndSeen → EndsSeen
 ends_to before now = record { before = before; now = now }

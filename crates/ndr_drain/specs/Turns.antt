@@ -129,7 +129,7 @@ pub record StopsUnderWay (w : Setting) (first : IntakeSeen) (s : SourceOver) (e 
   pub faults : ℕ
   pub no_fewer : s.faults.before ≤ faults
   pub cause : IsStepCause w (moved_to spot count first)
-      (record { left = left; left_now = s.left_now; ended = s.ended; faults = record { before = faults; now = s.faults.now } })
+      (record { left = left; left_now = s.left_now; ended_now = s.ended_now; faults = record { before = faults; now = s.faults.now } })
       (record { before = ends; now = e.now }) (record { log = log; log_now = t.log_now; steps = steps; steps_now = t.steps_now }) fault
 
 -- All pipes were read and given; this is the graph that is kept, and so many octets were taken.

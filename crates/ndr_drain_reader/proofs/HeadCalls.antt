@@ -123,7 +123,7 @@ module _ (law : HeadFaultsLaw) (w : Setting) (legal : IsLegalSide w) (order : Or
 pub cut_after : (w : Setting) (legal : IsLegalSide w) (order : Order) (n : ℕ) (a : SourceOver) (t : DecodingSeen) (y : Stream) → ReadTo w legal order n a t y
     → FaultOf the_head w order [] [] n a t fault.Memory
 cut_after w legal order n a t y r =
-    let follows : Follows a (idle_source a.left_now a.ended a.faults) a t (idle_log t.log_now t.steps_now) t = record {
+    let follows : Follows a (idle_source a.left_now a.ended_now a.faults) a t (idle_log t.log_now t.steps_now) t = record {
       before = refl;
       middle = refl;
       after = refl;
@@ -136,8 +136,8 @@ cut_after w legal order n a t y r =
       steps_now = refl;
     } in
     let none : a.faults.before ≤ a.faults.before = omega arith in
-    then_fault w legal order [] [] n a (idle_source a.left_now a.ended a.faults) a t (idle_log t.log_now t.steps_now) t follows r.octets r.items (cells_of y) r.took the_head none refl fault.Memory
-    (cut_off_here a.left_now a.ended a.faults t.log_now t.steps_now w legal order r.octets r.items r.direct (between_of y) r.s r.seen [] 0 (cells_of y)
+    then_fault w legal order [] [] n a (idle_source a.left_now a.ended_now a.faults) a t (idle_log t.log_now t.steps_now) t follows r.octets r.items (cells_of y) r.took the_head none refl fault.Memory
+    (cut_off_here a.left_now a.ended_now a.faults t.log_now t.steps_now w legal order r.octets r.items r.direct (between_of y) r.s r.seen [] 0 (cells_of y)
     (sym (types_length y.machine.builder)) r.stands.agrees)
 
 -- what is built for a purpose is a fit

@@ -291,7 +291,7 @@ module _ (plan : Plan) (w : Setting) (legal : IsLegalSide w) (order : Order) (sp
           record { octets = (c.gap_octets ++ c.count_octets) ++ (e.fetched ++ e.os); noted = n0 ++ e.noted; cut = cut; took = took_of e clear logged }
 
       bad_of : (e : Comes) (place : ℕ) (why : Reason) → IsRefusedHere order (f0 ++ (e.fetched ++ e.os)) (n0 ++ e.noted) (length e.s.cells) 0 target place why → AreNeeded target f0 (e.fetched ++ e.os)
-          → IsLogged e.noted (state_of o) e.s notes → (why ≡ reason.Truncated → b.ended ≡ true) → (why ≡ reason.Truncated → IsAtEnd b.left_now) → FilledBad w order spot s t place why
+          → IsLogged e.noted (state_of o) e.s notes → (why ≡ reason.Truncated → b.ended_now ≡ true) → (why ≡ reason.Truncated → IsAtEnd b.left_now) → FilledBad w order spot s t place why
       bad_of e place why here needs (log, steps) ended at_end =
           let (part, clear) =
           elements_refused w legal order spot pipe elem by_plan.there c.gap_octets c.count_octets gall gsize oall c.size near k (c.value ∙ some) (e.fetched ++ e.os) (all_of e) e.noted

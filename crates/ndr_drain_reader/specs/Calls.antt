@@ -121,7 +121,7 @@ pub record IsChunkCounted (order : Order) (place : ℕ) (fetched : List ℕ) (ea
 pub record IsChunkRefused (w : Setting) (order : Order) (spot : Spot) (s : SourceOver) (place : ℕ) (why : Reason) (t : DecodingSeen) : Type 0 where
   pub fetched : List ℕ
   pub left : Consumes s.left s.left_now fetched
-  pub ended : why ≡ reason.Truncated → s.ended ≡ true
+  pub ended : why ≡ reason.Truncated → s.ended_now ≡ true
   pub none_left : why ≡ reason.Truncated → IsAtEnd s.left_now
   pub bad : BadPart w order spot fetched place why
   pub ends : spot.place + length fetched ≡ fetched_to why (spot.place + length fetched) bad.here

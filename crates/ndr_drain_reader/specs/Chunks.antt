@@ -80,7 +80,7 @@ pub record FilledBad (w : Setting) (order : Order) (spot : Spot) (s : SourceOver
   pub noted : List Item
   pub refused : PartRefused w order spot octets noted place why
   pub took : TookOctets s t octets noted
-  pub ended : why ≡ reason.Truncated → s.ended ≡ true
+  pub ended : why ≡ reason.Truncated → s.ended_now ≡ true
   pub none_left : why ≡ reason.Truncated → IsAtEnd s.left_now
 
 -- the source failed, and the octets are cut short where they end

@@ -93,7 +93,7 @@ pub record IsJoined (want : Wanted) (s : SourceOver) (j : Joined) : Type 0 where
 
 -- the source has ended, and has nothing left
 pub record HasEnded (s : SourceOver) : Type 0 where
-  pub ended : s.ended ≡ true
+  pub ended : s.ended_now ≡ true
   pub none_left : IsAtEnd s.left_now
 
 -- whether more octets could have come: only octets that are too short are refused at the end

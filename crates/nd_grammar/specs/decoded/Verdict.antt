@@ -133,7 +133,7 @@ pub record IsRefused (w : Setting) (order : Order) (s : SourceOver) (place : ℕ
   pub fetched : List ℕ
   pub left : Consumes s.left s.left_now fetched
   -- Truncated is answered only where the source has ended, and has nothing left
-  pub ended : why ≡ reason.Truncated → s.ended ≡ true
+  pub ended : why ≡ reason.Truncated → s.ended_now ≡ true
   pub none_left : why ≡ reason.Truncated → IsAtEnd s.left_now
   pub bad : Bad w order fetched place why
   pub ends : length fetched ≡ fetched_to why (length fetched) bad.here

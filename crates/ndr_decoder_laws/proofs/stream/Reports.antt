@@ -39,7 +39,7 @@ module _ (w : Setting) (side : IsLegalSide w) (order : Order) (s : SourceOver) (
 
   -- the octets are refused, after the entries that the reader passes
   refused_with : (fetched : List ℕ) (noted : List Item) (n place : ℕ) (why : Reason) → (r : StreamRefused the_stream w order fetched noted n place why) → IsReported noted n t
-      → Consumes s.left s.left_now fetched → (why ≡ reason.Truncated → s.ended ≡ true) → (why ≡ reason.Truncated → IsAtEnd s.left_now)
+      → Consumes s.left s.left_now fetched → (why ≡ reason.Truncated → s.ended_now ≡ true) → (why ≡ reason.Truncated → IsAtEnd s.left_now)
       → (it : IsRefused w order s place why t) × ((it.fetched ≡ fetched) × (it.bad.earlier ≡ r.seen) × HasOwnNumbers it.bad.partial it.bad.entries)
   refused_with fetched noted n place why r reported left ended none_left =
       let stop : (read_stream w order fetched).progress.stop ≡ Some (place, why) = ap (λ (p : Progress). p.stop) r.stops in
@@ -63,7 +63,7 @@ module _ (w : Setting) (side : IsLegalSide w) (order : Order) (s : SourceOver) (
       )
 
   pub refused_so : (fetched : List ℕ) (noted : List Item) (n place : ℕ) (why : Reason) → (r : StreamRefused the_stream w order fetched noted n place why) → IsReported noted n t
-      → Consumes s.left s.left_now fetched → (why ≡ reason.Truncated → s.ended ≡ true) → (why ≡ reason.Truncated → IsAtEnd s.left_now)
+      → Consumes s.left s.left_now fetched → (why ≡ reason.Truncated → s.ended_now ≡ true) → (why ≡ reason.Truncated → IsAtEnd s.left_now)
       → (it : IsRefused w order s place why t) × ((it.fetched ≡ fetched) × (it.bad.earlier ≡ r.seen))
   refused_so fetched noted n place why r reported left ended none_left =
       let (it, (of_it, as_it, numbers)) = refused_with fetched noted n place why r reported left ended none_left in
@@ -71,13 +71,13 @@ module _ (w : Setting) (side : IsLegalSide w) (order : Order) (s : SourceOver) (
 
   -- at an entry of a graph whose cells have their own numbers
   pub refused_in_order : (fetched : List ℕ) (noted : List Item) (n place : ℕ) (why : Reason) → StreamRefused the_stream w order fetched noted n place why → IsReported noted n t
-      → Consumes s.left s.left_now fetched → (why ≡ reason.Truncated → s.ended ≡ true) → (why ≡ reason.Truncated → IsAtEnd s.left_now) → IsRefusedInOrder w order s place why t
+      → Consumes s.left s.left_now fetched → (why ≡ reason.Truncated → s.ended_now ≡ true) → (why ≡ reason.Truncated → IsAtEnd s.left_now) → IsRefusedInOrder w order s place why t
   refused_in_order fetched noted n place why r reported left ended none_left =
       let (it, (of_it, as_it, numbers)) = refused_with fetched noted n place why r reported left ended none_left in
       record { refused = it; numbers = numbers }
 
   pub refused_report : (fetched : List ℕ) (noted : List Item) (n place : ℕ) (why : Reason) → StreamRefused the_stream w order fetched noted n place why → IsReported noted n t
-      → Consumes s.left s.left_now fetched → (why ≡ reason.Truncated → s.ended ≡ true) → (why ≡ reason.Truncated → IsAtEnd s.left_now) → IsRefused w order s place why t
+      → Consumes s.left s.left_now fetched → (why ≡ reason.Truncated → s.ended_now ≡ true) → (why ≡ reason.Truncated → IsAtEnd s.left_now) → IsRefused w order s place why t
   refused_report fetched noted n place why r reported left ended none_left = (refused_so fetched noted n place why r reported left ended none_left).0
 
   -- the source failed: the octets are refused where they end

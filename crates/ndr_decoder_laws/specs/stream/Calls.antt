@@ -36,7 +36,7 @@ pub record Follows (a b c : SourceOver) (s t u : DecodingSeen) : Type 0 where
   pub before : c.left ≡ a.left
   pub middle : a.left_now ≡ b.left
   pub after : c.left_now ≡ b.left_now
-  pub ended : c.ended ≡ b.ended
+  pub ended : c.ended_now ≡ b.ended_now
   pub log : u.log ≡ s.log
   pub log_middle : s.log_now ≡ t.log
   pub log_now : u.log_now ≡ t.log_now
@@ -52,7 +52,7 @@ pub record Refused (x : Extent) (w : Setting) (order : Order) (fetched : List �
   pub n' : ℕ
   pub refused : StreamRefused x w order (fetched ++ octets) (noted ++ items) n' place why
   pub took : TookPart source t n octets items n'
-  pub ended : why ≡ reason.Truncated → source.ended ≡ true
+  pub ended : why ≡ reason.Truncated → source.ended_now ≡ true
   pub none_left : why ≡ reason.Truncated → IsAtEnd source.left_now
 
 -- The source failed before the octets of the next entry had come: those fetched are cut short where they end.

@@ -289,7 +289,7 @@ pub fn streams_are_reported()
     ensures refused { (w : Setting) → IsLegalSide w
         → (order : Order) (s : SourceOver) (t : DecodingSeen) (fetched : List ℕ) (noted : List Item) (n place : ℕ) (why : Reason)
         → StreamRefused the_stream w order fetched noted n place why
-        → IsReported noted n t → Consumes s.left s.left_now fetched → (why ≡ Truncated → s.ended ≡ true) → (why ≡ Truncated → IsAtEnd s.left_now)
+        → IsReported noted n t → Consumes s.left s.left_now fetched → (why ≡ Truncated → s.ended_now ≡ true) → (why ≡ Truncated → IsAtEnd s.left_now)
         → IsRefused w order s place why t }
     ensures unread { (w : Setting) → IsLegalSide w
         → (order : Order) (s : SourceOver) (t : DecodingSeen) (fetched : List ℕ) (noted : List Item) (n : ℕ)
