@@ -5,8 +5,8 @@
     tests/edits.py CRATE [NAME ..]  has `rt must-fail` try those of tests/edits/CRATE, or these of them, with the gate's own of that crate
 
 An edit of the gate is crates/CRATE/must-fail/NAME.edit, one on demand tests/edits/CRATE/NAME.edit; both have one form, which `rt --help` gives.
-To be tried, the files lie in crates/CRATE/must-fail while `rt` runs. A crate has at most five in the gate: each of them is one more proof of
-the crate. `faults`, which tests/cases/edits.py calls, answers what is wrong with an edit that could not even be applied.
+To be tried, the files lie in crates/CRATE/must-fail while `rt` runs. A crate has at most five in the gate, and the gate at most sixty: the edits
+of a crate begin with one more proof of the whole crate, so those of the gate are in the lightest crates that show their point. `faults`, which tests/cases/edits.py calls, answers what is wrong with an edit that could not even be applied.
 """
 
 from __future__ import annotations
@@ -22,6 +22,7 @@ sys.dont_write_bytecode = True
 
 ROOT = Path(__file__).resolve().parent.parent
 MOST = 5  # edits of one crate in the gate
+MOST_IN_ALL = 60
 
 
 def in_gate(root: Path = ROOT) -> List[Path]:
@@ -67,6 +68,7 @@ def faults(root: Path = ROOT) -> List[str]:
         crate = crate_of(root, edit).name
         counts[crate] = counts.get(crate, 0) + 1
     wrong += [f"{crate} has {count} edits in the gate, more than {MOST}" for crate, count in counts.items() if count > MOST]
+    wrong += [f"the gate has {sum(counts.values())} edits, more than {MOST_IN_ALL}"] if sum(counts.values()) > MOST_IN_ALL else []
     both = {(crate_of(root, edit).name, edit.name) for edit in in_gate(root)} & {(edit.parent.name, edit.name) for edit in on_demand(root)}
     return wrong + [f"{crate}/{name} is in the gate and on demand" for crate, name in sorted(both)]
 

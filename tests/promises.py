@@ -25,7 +25,7 @@ sys.dont_write_bytecode = True
 
 ROOT = Path(__file__).resolve().parent.parent
 HEADER = ["Promise", "Function and clause", "Must-fail edits", "Not promised"]
-MOST_WORDS = 2500
+MOST_WORDS = 3500
 SPAN = re.compile(r"`([^`]+)`")
 PLACE = re.compile(r"(?P<crate>\w+): (?P<function>\w+(?:::\w+)?)(?:, (?P<clause>\w+))?")
 
@@ -155,7 +155,8 @@ def read_crates(root: Path) -> Dict[str, Crate]:
     for name, crate in crates.items():
         for path in sorted((root / "crates" / name / "src").rglob("*.rt")):
             read_source(path, crate)
-        crate.edits = {path.stem for path in (root / "crates" / name / "must-fail").glob("*.edit")}
+        for folder in (root / "crates" / name / "must-fail", root / "tests" / "edits" / name):
+            crate.edits |= {path.stem for path in folder.glob("*.edit")}
     return crates
 
 
@@ -255,7 +256,7 @@ def faults_of_row(crates: Dict[str, Crate], row: Row) -> List[str]:
         wrong += faults_of_place(crates, span)
     for crate, name in edits_of(row):
         if crate not in crates or name not in crates[crate].edits:
-            wrong.append(f"there is no file crates/{crate}/must-fail/{name}.edit")
+            wrong.append(f"there is no file {name}.edit in crates/{crate}/must-fail or tests/edits/{crate}")
     return [f"line {row.line}: {fault}" for fault in wrong]
 
 
@@ -290,10 +291,9 @@ def listed(crates: Dict[str, Crate], names: List[str], root: Path = ROOT) -> Ite
             clauses = sorted(function.clauses or clauses_of_trait(crates, function))
             if function.is_public and clauses:
                 yield f"  {path_of(function)}: {', '.join(clauses)}"
+        on_demand = {path.stem for path in (root / "tests" / "edits" / name).glob("*.edit")}
         for edit in sorted(crates[name].edits):
-            yield f"  must fail: {edit}"
-        for path in sorted((root / "tests" / "edits" / name).glob("*.edit")):
-            yield f"  must fail, on demand: {path.stem}"
+            yield f"  must fail{', on demand' if edit in on_demand else ''}: {edit}"
 
 
 def main(words: List[str]) -> int:

@@ -49,11 +49,11 @@ BAD = [
     (ROW.replace("`low: Pile::grow, ok`", "-"), "the second cell"),
     (ROW.replace("`shrinks`", "shrinks"), "the third cell"),
     (ROW.replace("`shrinks`", ""), "the third cell"),
-    (ROW.replace("shrinks", "sleeps"), "there is no file crates/low/must-fail/sleeps.edit"),
-    (ROW.replace("shrinks", "high/shrinks"), "there is no file crates/high/must-fail/shrinks.edit"),
+    (ROW.replace("shrinks", "sleeps"), "there is no file sleeps.edit in crates/low/must-fail"),
+    (ROW.replace("shrinks", "high/shrinks"), "there is no file shrinks.edit in crates/high/must-fail"),
     (ROW.replace("It grows.", ""), "the promise is empty"),
     (ROW.replace("| how fast ", ""), "a row has 3 cells"),
-    (ROW.replace("how fast", "how fast " * 2500), "more than 2500"),
+    (ROW.replace("how fast", "how fast " * 3500), "more than 3500"),
     ("", "there is no row"),
 ]
 
