@@ -4,6 +4,8 @@
     tests/reading.py NAME ..          the files of definitions that the clauses of a public function cite, followed to
                                       the end: a line each with its lines, and the total
     tests/reading.py --clause NAME    the same, clause by clause
+    tests/reading.py --text NAME      the clauses, and the definitions themselves, with their comments: those of lower
+                                      crates first, and nothing else
 
 NAME is a function, as `decode`, or CRATE:FUNCTION where several crates have one of that name. A clause cites what its
 names mean by the imports of its file; a file of `specs/` is followed by the names that it imports, in the definitions
@@ -18,7 +20,7 @@ import signal
 import sys
 from dataclasses import dataclass, field
 from pathlib import Path
-from typing import Dict, Iterable, List, Optional, Set, Tuple
+from typing import Callable, Dict, Iterable, List, Optional, Set, Tuple
 
 sys.dont_write_bytecode = True
 
@@ -85,6 +87,7 @@ class Module:
     path: Path
     imports: Imports = field(default_factory=Imports)
     texts: Dict[str, str] = field(default_factory=dict)  # the text of each definition
+    shown: Dict[str, str] = field(default_factory=dict)  # the same with its comments
     heads: str = ""  # telescopes of modules, which hold for all of them
 
 
@@ -158,13 +161,14 @@ def cut(path: Path) -> Module:
     module = Module(path)
     if path.suffix != ".antt":
         return module
-    name = ""
+    name, comment = "", ""
     for line in path.read_text(encoding="utf-8").split("\n"):
         if module.imports.add(line):
             continue
         depth = len(line) - len(line.lstrip(" "))
         body = line.strip()
         if not body or body.startswith("--"):
+            comment = comment + line + "\n" if body and not body.startswith("-- #") else ""
             continue
         if re.match(r"(pub )?module ", body):
             module.heads += line + "\n"
@@ -176,6 +180,8 @@ def cut(path: Path) -> Module:
                 name = start["name"]
         if name:
             module.texts[name] = module.texts.get(name, "") + line + "\n"
+            module.shown[name] = module.shown.get(name, "") + comment + line + "\n"
+        comment = ""
     return module
 
 
@@ -239,7 +245,7 @@ def clauses_of(text: str, start: int) -> Iterable[Tuple[str, str]]:
 
 
 def main(args: List[str]) -> int:
-    by_clause = "--clause" in args
+    by_clause, as_text = "--clause" in args, "--text" in args
     names = [arg for arg in args if not arg.startswith("--")]
     if not names:
         print(__doc__.strip(), file=sys.stderr)
@@ -250,16 +256,42 @@ def main(args: List[str]) -> int:
             print(f"no public function {name}", file=sys.stderr)
             return 1
         for call in found:
-            show(call, by_clause)
+            if as_text:
+                print_text(call)
+            else:
+                show(call, by_clause)
     return 0
 
 
-def show(call: Call, by_clause: bool) -> None:
-    sources = Sources()
+def imports_of(call: Call) -> Imports:
+    """What the names of a call's clauses mean."""
     imports = Imports()
     for line in call.path.read_text(encoding="utf-8").split("\n"):
         if line.startswith("ghost use "):
             imports.add(line)
+    return imports
+
+
+def print_text(call: Call) -> None:
+    """Prints the clauses of a call, and the definitions that they cite."""
+    sources = Sources()
+    print(f"{call.path.relative_to(ROOT)}:{call.line}")
+    for title, text in call.clauses:
+        print(f"    {title} {{{text}}}")
+    reached = sources.follow(imports_of(call).cited("\n".join(text for _, text in call.clauses)))
+    modules = {module.path: module for module in sources.modules.values() if module}
+    for path in sorted((path for path in reached if path.suffix == ".antt"), key=place_of()):
+        module = modules[path]
+        names = {owner(module, name) for name in reached[path]}
+        print(f"\n-- {path.relative_to(ROOT / 'crates')}")
+        for name, text in module.shown.items():
+            if name in names:
+                print("\n" + text, end="")
+
+
+def show(call: Call, by_clause: bool) -> None:
+    sources = Sources()
+    imports = imports_of(call)
     print(f"{call.path.relative_to(ROOT)}:{call.line}")
     parts = call.clauses if by_clause else [("", "\n".join(text for _, text in call.clauses))]
     for title, text in parts:
@@ -268,7 +300,8 @@ def show(call: Call, by_clause: bool) -> None:
         report(sources.follow(imports.cited(text)))
 
 
-def report(reached: Dict[Path, Set[str]]) -> None:
+def place_of() -> Callable[[Path], Tuple[int, str]]:
+    """Where a file comes in the order of the crates, lowest first."""
     crates = (ROOT / "crates.txt").read_text(encoding="utf-8").split("\n")
     order = [line.split(":")[0].split(" ")[0] for line in crates if ":" in line and not line.startswith("#")]
 
@@ -276,6 +309,11 @@ def report(reached: Dict[Path, Set[str]]) -> None:
         crate = path.relative_to(ROOT / "crates").parts[0]
         return (order.index(crate) if crate in order else -1, str(path))
 
+    return key
+
+
+def report(reached: Dict[Path, Set[str]]) -> None:
+    key = place_of()
     for suffix, what in ((".antt", "files of definitions"), (".rt", "files of types")):
         paths = sorted((path for path in reached if path.suffix == suffix), key=key)
         total = 0
