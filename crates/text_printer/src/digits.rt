@@ -36,8 +36,8 @@ pub(crate) fn append_hex(text: &mut Octets, octet: u8) -> Result<(), Memory>
     text.append(&[hex_digit(octet / 16), hex_digit(octet % 16)])
 }
 
-/// Octets as hexadecimal digits, in lower case: eight at a time, and then those that are left.
-pub(crate) fn append_hexes(text: &mut Octets, octets: &[u8]) -> Result<(), Memory>
+/// Adds octets to a text as hexadecimal digits, in lower case, two for each. It takes memory for the digits; out of memory is the only error.
+pub fn append_hexes(text: &mut Octets, octets: &[u8]) -> Result<(), Memory>
     ensures { OnOk result (text.new ≡ text.old ++ hex_text octets.now) }
 {
     let eights = octets.len() / 8;

@@ -10,7 +10,7 @@ mod rows;
 mod values;
 mod walked;
 
-pub use digits::append_number;
+pub use digits::{append_hexes, append_number};
 pub use forms::append_context;
 pub use graphs::{append_value_text, print, print_value};
 pub use paths::{path, root_at};
