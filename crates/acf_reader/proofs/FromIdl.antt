@@ -14,6 +14,7 @@ use Rattle.idl_lexer.specs.Verdict.{Lexed}
 use Rattle.idl_grammar.specs.Symbols.{Spelled, reserved_words, attribute_words, banned_words, banned_attributes, marks}
 use Rattle.idl_grammar.specs.Symbols as symbol
 use Rattle.idl_grammar.specs.Text as idl
+use Rattle.idl_grammar.specs.declared.language.Language.TheVariants.{C706}
 use Rattle.idl_tokens.specs.declared.lexemes.Lexeme as program
 use Rattle.idl_tokens.specs.Lexemes.{text_of, seen_lexeme}
 use Rattle.acf_reader.specs.Symbols.{own_words, words, symbol_of, lexeme_of, lexemes}
@@ -137,8 +138,8 @@ module _ (c : List ℕ) where
 
 -- ## tokens
 
-symbols_from : (kind : TokenKind) (c : List ℕ) → symbol_from (idl.symbol_of kind c) c ≡ symbol_of kind c
-unfolding idl.symbol_of symbol_of names_of_idl
+symbols_from : (kind : TokenKind) (c : List ℕ) → symbol_from (idl.symbol_of C706 kind c) c ≡ symbol_of kind c
+unfolding idl.symbol_of idl.symbol_of_word symbol_of names_of_idl
 symbols_from token.Word c = word_from c
 symbols_from token.Uuid c = kept c symbol.UuidValue refl
 symbols_from token.Number c = kept c symbol.Number refl
@@ -146,15 +147,15 @@ symbols_from token.Char c = kept c symbol.Character refl
 symbols_from token.Str c = kept c symbol.Quoted refl
 symbols_from token.Mark c = mark_from c
 
-all_from : (text : List ℕ) (tokens : List Token) → map lexeme_from (map (idl.lexeme_of text) tokens) ≡ map (lexeme_of text) tokens
+all_from : (text : List ℕ) (tokens : List Token) → map lexeme_from (map (idl.lexeme_of C706 text) tokens) ≡ map (lexeme_of text) tokens
 all_from text [] = refl
 all_from text (t ∷ ts) =
-    let e : lexeme_from (idl.lexeme_of text t) ≡ lexeme_of text t =
-    ap (λ (s : ℕ). record { symbol = s; at = t.from; octets = (idl.lexeme_of text t).octets }) (symbols_from t.kind (idl.lexeme_of text t).octets) in
+    let e : lexeme_from (idl.lexeme_of C706 text t) ≡ lexeme_of text t =
+    ap (λ (s : ℕ). record { symbol = s; at = t.from; octets = (idl.lexeme_of C706 text t).octets }) (symbols_from t.kind (idl.lexeme_of C706 text t).octets) in
     let rest = all_from text ts in
     cc
 
-pub lexemes_from : (lexed : Lexed) → map lexeme_from (idl.lexemes lexed) ≡ lexemes lexed
+pub lexemes_from : (lexed : Lexed) → map lexeme_from (idl.lexemes C706 lexed) ≡ lexemes lexed
 lexemes_from lexed = all_from lexed.text lexed.tokens
 
 -- ## the loop over the tokens

@@ -6,6 +6,7 @@ ghost use Rattle.acf_reader.specs.FromIdl.{names_of_idl, symbol_from};
 ghost use Rattle.acf_reader.specs.Symbols.{lexemes as grammar_lexemes};
 
 use crate::words::OWN_WORDS;
+use idl_grammar::Language;
 use idl_lexer::Tokens;
 use idl_tokens::lexemes::{Lexeme, among, lexemes as idl_lexemes};
 use idl_tokens::symbol;
@@ -62,7 +63,7 @@ pub(crate) fn lexemes(alloc: Global, tokens: &Tokens) -> Result<Vec<Lexeme<'_>>,
     ensures formed { IfOk result (λ v. IsFormed (text_of v.items)) }
     ensures text { IfOk result (λ v. text_of v.items ≡ grammar_lexemes tokens.now) }
 {
-    let in_idl = idl_lexemes(alloc, tokens)?;
+    let in_idl = idl_lexemes(alloc, Language::C706, tokens)?;
     let mut list = Vec::with_capacity(alloc, in_idl.len())?;
     for lexeme in &in_idl {
         list.push(Lexeme {

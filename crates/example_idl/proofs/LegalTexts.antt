@@ -9,7 +9,8 @@ use Rattle.idl_rule_definitions.specs.Alone.{alone}
 use Rattle.idl_rule_definitions.specs.Texts.{cut, told_of_tree, no_rule}
 use Rattle.example_idl.specs.Interfaces.{meant_of_tree}
 use Rattle.example_idl.proofs.Judged.{sum_means, directory_means}
-use Rattle.idl_grammar.specs.Text.{lexemes, words, symbol_of}
+use Rattle.idl_grammar.specs.declared.language.Language.TheVariants.{C706}
+use Rattle.idl_grammar.specs.Text.{lexemes, words, symbol_of_word, symbol_of}
 use Rattle.idl_grammar.specs.Expressions.{names, binary_operators, unary_operators, binary_of, unary_of, symbol_level, is_unary, is_operator, many_operators}
 use Rattle.idl_grammar.specs.ReadExpressions.{is_operand, operand_of, outer_read}
 use Rattle.idl_grammar.specs.Reading.{simple_firsts, width_read, unsigned_read, integer_read, simple_read, switch_type_read, pointer_class_read, variable_word_read, variable_name_read, uuid_read}
@@ -36,12 +37,13 @@ of_tree legal (Ok t) h = of_meaning legal (alone t) (same (first_broken (alone t
 of_tree legal (Err f) h = absurd (let e : None ≡ no_rule = h in cc)
 
 of_text : AllLegal → (text : List ℕ) → told_of text ≡ no_rule → All IsLegalMeant (meant_of text)
-of_text legal text h = of_tree legal (file_answer 64 129 (lexemes (cut text))) h
+of_text legal text h = of_tree legal (file_answer 64 129 (lexemes C706 (cut text))) h
 
 -- ## Two texts
 
 sum_told : told_of sum_text ≡ no_rule
-unfolding words symbol_of names binary_operators unary_operators binary_of unary_of symbol_level is_unary is_operator many_operators is_operand operand_of outer_read simple_firsts width_read
+unfolding words symbol_of_word symbol_of
+    names binary_operators unary_operators binary_of unary_of symbol_level is_unary is_operator many_operators is_operand operand_of outer_read simple_firsts width_read
     unsigned_read integer_read simple_read switch_type_read pointer_class_read variable_word_read variable_name_read uuid_read version_numbers_read version_read endpoint_read pointer_default_read
     variable_read switch_attribute_read case_attribute_read bracket_attribute_read attribute_kind_read attribute_read attributes_read maybe_attributes_read upper_read range_read bound_read
     dimension_read declarator_read declarators_read enumerator_read enumerators_read label_read labels_read discriminant_read maybe_name_read union_switch_read type_firsts member_firsts arm_firsts
@@ -51,7 +53,8 @@ unfolding words symbol_of names binary_operators unary_operators binary_of unary
 sum_told = refl
 
 directory_told : told_of directory_text ≡ no_rule
-unfolding words symbol_of names binary_operators unary_operators binary_of unary_of symbol_level is_unary is_operator many_operators is_operand operand_of outer_read simple_firsts width_read
+unfolding words symbol_of_word symbol_of
+    names binary_operators unary_operators binary_of unary_of symbol_level is_unary is_operator many_operators is_operand operand_of outer_read simple_firsts width_read
     unsigned_read integer_read simple_read switch_type_read pointer_class_read variable_word_read variable_name_read uuid_read version_numbers_read version_read endpoint_read pointer_default_read
     variable_read switch_attribute_read case_attribute_read bracket_attribute_read attribute_kind_read attribute_read attributes_read maybe_attributes_read upper_read range_read bound_read
     dimension_read declarator_read declarators_read enumerator_read enumerators_read label_read labels_read discriminant_read maybe_name_read union_switch_read type_firsts member_firsts arm_firsts

@@ -1,7 +1,7 @@
 -- The worked listings.
 use Rattle.std.proofs.Common.{◌≡◌, refl}
 use Rattle.std.specs.Prelude.{[], ◌∷◌}
-use Rattle.idl_grammar.specs.Text.{words, symbol_of}
+use Rattle.idl_grammar.specs.Text.{words, symbol_of_word, symbol_of}
 use Rattle.idl_grammar.specs.Expressions.{names, binary_operators, unary_operators, symbol_level, is_unary, many_operators}
 use Rattle.idl_grammar.specs.ReadExpressions.{is_operand, operand_of, outer_read}
 use Rattle.idl_grammar.specs.Reading.{simple_firsts, width_read, unsigned_read, integer_read, simple_read, switch_type_read, pointer_class_read, variable_word_read, variable_name_read, uuid_read}
@@ -27,7 +27,8 @@ pub worked :
     (listing_of sum_file ≡ sum_listing ∷ [])
     × (listing_beside base_file directory_file ≡ directory_listing ∷ [])
     × (listing_of forms_file ≡ forms_listing ∷ [])
-unfolding words symbol_of names binary_operators unary_operators symbol_level is_unary many_operators is_operand operand_of outer_read simple_firsts width_read unsigned_read integer_read simple_read
+unfolding words symbol_of_word symbol_of
+    names binary_operators unary_operators symbol_level is_unary many_operators is_operand operand_of outer_read simple_firsts width_read unsigned_read integer_read simple_read
     switch_type_read pointer_class_read variable_word_read variable_name_read uuid_read version_numbers_read version_read pointer_default_read variable_read switch_attribute_read case_attribute_read
     bracket_attribute_read attribute_kind_read attribute_read attributes_read maybe_attributes_read range_read bound_read dimension_read declarator_read declarators_read enumerator_read
     enumerators_read label_read labels_read discriminant_read maybe_name_read union_switch_read type_firsts member_firsts arm_firsts member_read members_read struct_body_read arm_field_read arm_read

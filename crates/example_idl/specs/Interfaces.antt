@@ -14,6 +14,7 @@ use Rattle.nd_types.specs.declared.types.Way.{Way}
 use Rattle.nd_types.specs.declared.types.Way.TheVariants as way
 use Rattle.nd_types.specs.declared.TheConstants.{HANDLE}
 use Rattle.nd_types.specs.Kinds.{basic_types}
+use Rattle.idl_grammar.specs.declared.language.Language.TheVariants.{C706}
 use Rattle.idl_grammar.specs.Text.{lexemes}
 use Rattle.idl_grammar.specs.Tree.{Tree}
 use Rattle.idl_grammar.specs.Answers.{file_answer}
@@ -28,7 +29,7 @@ meant_of_tree (Err f) = []
 
 -- what a text means that is a file without imports
 abbrev pub meant_of : List ℕ → List Meant
-meant_of text = meant_of_tree (file_answer 64 129 (lexemes (cut text)))
+meant_of text = meant_of_tree (file_answer 64 129 (lexemes C706 (cut text)))
 
 abbrev number : ℕ → TypeId
 number t = record { 0 = t }

@@ -1,6 +1,7 @@
 -- Texts, and how the interfaces are listed that they mean.
 use Rattle.std.specs.Prelude.{ℕ, List, [], ◌∷◌, ◌++◌, map, codes, Result, Ok, Err}
 use Rattle.idl_grammar.specs.ReadPhrases.{Fault}
+use Rattle.idl_grammar.specs.declared.language.Language.TheVariants.{C706}
 use Rattle.idl_grammar.specs.Text.{lexemes}
 use Rattle.idl_grammar.specs.Tree.{Tree}
 use Rattle.idl_grammar.specs.Answers.{file_answer}
@@ -18,7 +19,7 @@ listing_of text = map listing (meant_of text)
 -- ## A file that imports another
 
 abbrev pub tree_of : List ℕ → Result Tree Fault
-tree_of text = file_answer 64 129 (lexemes (cut text))
+tree_of text = file_answer 64 129 (lexemes C706 (cut text))
 
 abbrev pub meant_of_trees : Result Tree Fault → Result Tree Fault → List Meant
 meant_of_trees (Ok imported) (Ok main) = meaning (with_import imported main)

@@ -32,13 +32,20 @@ fn is_class_word(word: Word) -> bool
     matches!(word, Word::Reference | Word::Unique | Word::Full)
 }
 
-/// Whether a word names a variable.
-fn is_variable_word(word: Word) -> bool
+/// Whether a word is of a count or of a tag.
+fn is_count_or_tag(word: Word) -> bool
     ensures { result ≡ list_any (λ w. bytes_eq w (spelled word)) (switch_is_word ∷ sizes ++ lengths) }
 {
     matches!(
         word,
-        Word::SizeIs | Word::MaxIs | Word::LengthIs | Word::FirstIs | Word::LastIs | Word::SwitchIs
+        Word::SizeIs
+            | Word::MaxIs
+            | Word::LengthIs
+            | Word::FirstIs
+            | Word::LastIs
+            | Word::SwitchIs
+            | Word::AnySize
+            | Word::AnyLength
     )
 }
 
@@ -53,15 +60,18 @@ fn is_in_place(position: Position, word: Word) -> bool
         ),
         Position::Typedef => {
             is_class_word(word)
-                || matches!(word, Word::String | Word::ContextHandle | Word::SwitchType)
+                || matches!(
+                    word,
+                    Word::String | Word::ContextHandle | Word::SwitchType | Word::AnyLength
+                )
         }
         Position::TaggedType => matches!(word, Word::SwitchType),
         Position::Member => is_class_word(word)
-            || is_variable_word(word)
+            || is_count_or_tag(word)
             || matches!(word, Word::String),
         Position::Parameter => {
             is_class_word(word)
-                || is_variable_word(word)
+                || is_count_or_tag(word)
                 || matches!(
                     word,
                     Word::In | Word::Out | Word::String | Word::ContextHandle

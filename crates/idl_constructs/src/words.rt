@@ -35,6 +35,8 @@ pub enum Word {
     Idempotent,
     Broadcast,
     Maybe,
+    AnySize,
+    AnyLength,
 }
 
 /// The word of a class.
@@ -84,6 +86,8 @@ pub fn first_word(kind: &AttributeKind) -> Word
         AttributeKind::Idempotent => Word::Idempotent,
         AttributeKind::Broadcast => Word::Broadcast,
         AttributeKind::Maybe => Word::Maybe,
+        AttributeKind::AnySize => Word::AnySize,
+        AttributeKind::AnyLength => Word::AnyLength,
     }
 }
 
@@ -120,11 +124,11 @@ pub fn has_class(attributes: &[Attribute]) -> bool
     has(attributes, Word::Reference) || has(attributes, Word::Unique) || has(attributes, Word::Full)
 }
 
-/// Whether a list states a maximum count.
+/// Whether a list has an attribute of a maximum count.
 pub fn has_size(attributes: &[Attribute]) -> bool
     ensures { result ≡ has_one_of sizes (map seen_attribute attributes.now) }
 {
-    has(attributes, Word::SizeIs) || has(attributes, Word::MaxIs)
+    has(attributes, Word::SizeIs) || has(attributes, Word::MaxIs) || has(attributes, Word::AnySize)
 }
 
 /// Whether a list makes an array varying.
@@ -134,4 +138,5 @@ pub fn has_length(attributes: &[Attribute]) -> bool
     has(attributes, Word::FirstIs)
         || has(attributes, Word::LengthIs)
         || has(attributes, Word::LastIs)
+        || has(attributes, Word::AnyLength)
 }

@@ -61,12 +61,14 @@ fn plain_of(symbol: u8) -> Option<AttributeKind>
         symbol::IDEMPOTENT => Some(AttributeKind::Idempotent),
         symbol::BROADCAST => Some(AttributeKind::Broadcast),
         symbol::MAYBE => Some(AttributeKind::Maybe),
+        symbol::ANY_SIZE => Some(AttributeKind::AnySize),
+        symbol::ANY_LENGTH => Some(AttributeKind::AnyLength),
         _ => None,
     }
 }
 
 /// The symbols of the attributes of one word.
-static PLAIN_WORDS: [u8; 8] = [
+static PLAIN_WORDS: [u8; 10] = [
     symbol::IN,
     symbol::OUT,
     symbol::STRING,
@@ -75,6 +77,8 @@ static PLAIN_WORDS: [u8; 8] = [
     symbol::IDEMPOTENT,
     symbol::BROADCAST,
     symbol::MAYBE,
+    symbol::ANY_SIZE,
+    symbol::ANY_LENGTH,
 ];
 
 /// The symbols of the classes of pointers.

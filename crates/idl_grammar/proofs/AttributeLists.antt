@@ -198,7 +198,7 @@ module _ (depth : ℕ) where
   kinds_forth lifted x i j c (inl ph) =
       subst (λ (v : AttributeKind). attribute_kind depth v lifted x i j) (sym ph.1)
       (each_meant (λ v s. symbol_at x i ≡ s → attribute_kind depth v lifted x i j) tree.Maybe plain_words
-      (λ e. (e, ph.2), (λ e. (e, ph.2), (λ e. (e, ph.2), (λ e. (e, ph.2), (λ e. (e, ph.2), (λ e. (e, ph.2), (λ e. (e, ph.2), (λ e. (e, ph.2), tt))))))))
+      (λ e. (e, ph.2), (λ e. (e, ph.2), (λ e. (e, ph.2), (λ e. (e, ph.2), (λ e. (e, ph.2), (λ e. (e, ph.2), (λ e. (e, ph.2), (λ e. (e, ph.2), (λ e. (e, ph.2), (λ e. (e, ph.2), tt))))))))))
       (symbol_at x i) ph.0 refl)
   kinds_forth lifted x i j c (inr (inl ph)) = subst (λ (v : AttributeKind). attribute_kind depth v lifted x i j) (sym ph.1) ph.2
   kinds_forth lifted x i j c (inr (inr (inl ph))) = subst (λ (v : AttributeKind). attribute_kind depth v lifted x i j) (sym ph.1) ph.2
@@ -220,6 +220,8 @@ module _ (depth : ℕ) where
   kinds_back lifted x i j tree.Idempotent ph = inl (one_word tree.Maybe plain_words symbol.Idempotent tree.Idempotent refl refl lifted x i j ph)
   kinds_back lifted x i j tree.Broadcast ph = inl (one_word tree.Maybe plain_words symbol.Broadcast tree.Broadcast refl refl lifted x i j ph)
   kinds_back lifted x i j tree.Maybe ph = inl (one_word tree.Maybe plain_words symbol.Maybe tree.Maybe refl refl lifted x i j ph)
+  kinds_back lifted x i j tree.AnySize ph = inl (one_word tree.Maybe plain_words symbol.AnySize tree.AnySize refl refl lifted x i j ph)
+  kinds_back lifted x i j tree.AnyLength ph = inl (one_word tree.Maybe plain_words symbol.AnyLength tree.AnyLength refl refl lifted x i j ph)
   kinds_back lifted x i j (tree.Class k) ph = inr (inl (k, refl, ph))
   kinds_back lifted x i j tree.Local ph = inr (inr (inl (tt, refl, ph)))
   kinds_back lifted x i j (tree.Uuid u) ph = inr (inr (inr (inl (u, refl, ph))))
@@ -244,7 +246,7 @@ module _ (depth : ℕ) where
 
 -- what an attribute begins with
 abbrev attribute_firsts : List ℕ
-attribute_firsts = symbol.In ∷ symbol.Out ∷ symbol.String ∷ symbol.ContextHandle ∷ symbol.Default ∷ symbol.Idempotent ∷ symbol.Broadcast ∷ symbol.Maybe ∷ class_on 0
+attribute_firsts = symbol.In ∷ symbol.Out ∷ symbol.String ∷ symbol.ContextHandle ∷ symbol.Default ∷ symbol.Idempotent ∷ symbol.Broadcast ∷ symbol.Maybe ∷ symbol.AnySize ∷ symbol.AnyLength ∷ class_on 0
 
 kind_begins : (depth : ℕ) → Begins (attribute_kind depth) attribute_firsts
 kind_begins depth lifted x i j c ph =

@@ -155,6 +155,8 @@ kind_clean depth tree.Default = mark_clean symbol.Default refl
 kind_clean depth tree.Idempotent = mark_clean symbol.Idempotent refl
 kind_clean depth tree.Broadcast = mark_clean symbol.Broadcast refl
 kind_clean depth tree.Maybe = mark_clean symbol.Maybe refl
+kind_clean depth tree.AnySize = mark_clean symbol.AnySize refl
+kind_clean depth tree.AnyLength = mark_clean symbol.AnyLength refl
 
 attribute_clean : (depth : ℕ) (a : Attribute) → Clean (attribute depth a)
 unfolding attribute

@@ -34,3 +34,4 @@ pub mod Gathered
 pub mod OneVerdict
 pub mod Judged
 pub mod Sequences
+mod Apart

@@ -186,3 +186,33 @@ deep = record {
       piece token.Mark 98 99 ∷ piece token.Mark 99 100 ∷ piece token.Mark 100 101 ∷ piece token.Number 101 102 ∷ piece token.Mark 102 103 ∷
       piece token.Mark 104 105 ∷ [];
 }
+
+-- words with which an attribute begins in the windows language, also as a name outside attribute brackets
+abbrev pub free_counts : Lexed
+free_counts = record {
+  text = codes "[local] interface a { typedef [any_length] byte b[*]; struct any_size { [any_size] byte c[]; }; }";
+  tokens =
+      piece token.Mark 0 1 ∷ piece token.Word 1 6 ∷ piece token.Mark 6 7 ∷ piece token.Word 8 17 ∷ piece token.Word 18 19 ∷
+      piece token.Mark 20 21 ∷ piece token.Word 22 29 ∷ piece token.Mark 30 31 ∷ piece token.Word 31 41 ∷ piece token.Mark 41 42 ∷
+      piece token.Word 43 47 ∷ piece token.Word 48 49 ∷ piece token.Mark 49 50 ∷ piece token.Mark 50 51 ∷ piece token.Mark 51 52 ∷
+      piece token.Mark 52 53 ∷ piece token.Word 54 60 ∷ piece token.Word 61 69 ∷ piece token.Mark 70 71 ∷ piece token.Mark 72 73 ∷
+      piece token.Word 73 81 ∷ piece token.Mark 81 82 ∷ piece token.Word 83 87 ∷ piece token.Word 88 89 ∷ piece token.Mark 89 90 ∷
+      piece token.Mark 90 91 ∷ piece token.Mark 91 92 ∷ piece token.Mark 93 94 ∷ piece token.Mark 94 95 ∷ piece token.Mark 96 97 ∷ [];
+}
+
+-- its tree in the windows language
+abbrev pub free_tree : Tree
+free_tree = record {
+  attributes = (record { at = 0; list = record { at = 1; kind = tree.Local } ∷ [] });
+  name = (spelled_at 18 (codes "a"));
+  imports = [];
+  exports =
+      tree.Typedef 22 (Some (record { at = 30; list = record { at = 31; kind = tree.AnyLength } ∷ [] })) false (tree.Simple types.Byte)
+      (record { stars = ([]); name = (spelled_at 48 (codes "b")); dimensions = (Some tree.Star ∷ []) } ∷ [])
+      ∷ tree.Tagged 54 None
+      (tree.Struct 54 (Some (spelled_at 61 (codes "any_size")))
+      (tree.next_member 72
+      (Some (record { at = 72; list = record { at = 73; kind = tree.AnySize } ∷ [] })) (tree.Simple types.Byte)
+      (record { stars = ([]); name = (spelled_at 88 (codes "c")); dimensions = (None ∷ []) } ∷ []) tree.no_members))
+      ∷ [];
+}

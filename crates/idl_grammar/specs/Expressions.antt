@@ -20,7 +20,8 @@ abbrev attribute_symbols : List ℕ
 attribute_symbols =
     symbol.Uuid ∷ symbol.Version ∷ symbol.Endpoint ∷ symbol.Local ∷ symbol.PointerDefault ∷ symbol.Ref ∷ symbol.Unique ∷ symbol.Ptr
     ∷ symbol.In ∷ symbol.Out ∷ symbol.String ∷ symbol.ContextHandle ∷ symbol.SizeIs ∷ symbol.MaxIs ∷ symbol.LengthIs ∷ symbol.FirstIs
-    ∷ symbol.LastIs ∷ symbol.SwitchIs ∷ symbol.SwitchType ∷ symbol.Idempotent ∷ symbol.Broadcast ∷ symbol.Maybe ∷ []
+    ∷ symbol.LastIs ∷ symbol.SwitchIs ∷ symbol.SwitchType ∷ symbol.Idempotent ∷ symbol.Broadcast ∷ symbol.Maybe ∷ symbol.AnySize
+    ∷ symbol.AnyLength ∷ []
 
 abbrev names_inside : List ℕ
 names_inside = symbol.Name ∷ symbol.BannedAttribute ∷ []

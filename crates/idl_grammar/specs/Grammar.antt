@@ -121,6 +121,8 @@ attribute_kind depth tree.Default = mark symbol.Default
 attribute_kind depth tree.Idempotent = mark symbol.Idempotent
 attribute_kind depth tree.Broadcast = mark symbol.Broadcast
 attribute_kind depth tree.Maybe = mark symbol.Maybe
+attribute_kind depth tree.AnySize = mark symbol.AnySize
+attribute_kind depth tree.AnyLength = mark symbol.AnyLength
 
 unfoldable pub attribute : ℕ → Rel Attribute
 attribute depth a = located (attribute_kind depth) (a.at, a.kind)

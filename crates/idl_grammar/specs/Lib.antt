@@ -2,6 +2,7 @@ pub mod Symbols
 pub mod Text
 pub mod Expressions
 pub mod Tree
+pub mod Files
 pub mod Grammar
 pub mod Seen
 pub mod ReadExpressions

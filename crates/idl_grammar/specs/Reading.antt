@@ -123,11 +123,12 @@ abbrev pub plain_words : List (Meant AttributeKind)
 plain_words =
     meant symbol.In tree.In ∷ meant symbol.Out tree.Out ∷ meant symbol.String tree.String ∷ meant symbol.ContextHandle tree.ContextHandle
     ∷ meant symbol.Default tree.Default ∷ meant symbol.Idempotent tree.Idempotent ∷ meant symbol.Broadcast tree.Broadcast
-    ∷ meant symbol.Maybe tree.Maybe ∷ []
+    ∷ meant symbol.Maybe tree.Maybe ∷ meant symbol.AnySize tree.AnySize ∷ meant symbol.AnyLength tree.AnyLength ∷ []
 
 abbrev pub plain_symbols : List ℕ
 plain_symbols =
-    symbol.In ∷ symbol.Out ∷ symbol.String ∷ symbol.ContextHandle ∷ symbol.Default ∷ symbol.Idempotent ∷ symbol.Broadcast ∷ symbol.Maybe ∷ []
+    symbol.In ∷ symbol.Out ∷ symbol.String ∷ symbol.ContextHandle ∷ symbol.Default ∷ symbol.Idempotent ∷ symbol.Broadcast ∷ symbol.Maybe
+    ∷ symbol.AnySize ∷ symbol.AnyLength ∷ []
 
 abbrev pub class_symbols : List ℕ
 class_symbols = symbol.Ref ∷ symbol.Unique ∷ symbol.Ptr ∷ []

@@ -56,6 +56,8 @@ seen_kind kind.Default = tree.Default
 seen_kind kind.Idempotent = tree.Idempotent
 seen_kind kind.Broadcast = tree.Broadcast
 seen_kind kind.Maybe = tree.Maybe
+seen_kind kind.AnySize = tree.AnySize
+seen_kind kind.AnyLength = tree.AnyLength
 
 abbrev pub seen_attribute : attribute.Attribute → tree.Attribute
 seen_attribute a = record { at = a.at; kind = seen_kind a.kind }

@@ -180,6 +180,14 @@ Broadcast = 60
 abbrev pub Maybe : ℕ
 Maybe = 61
 
+-- ### Of the windows language alone: a text of C706 has no token of these
+
+abbrev pub AnySize : ℕ
+AnySize = 62
+
+abbrev pub AnyLength : ℕ
+AnyLength = 63
+
 -- ## Marks
 
 abbrev pub OpenSquare : ℕ
@@ -344,6 +352,13 @@ attribute_words =
     spelled (codes "idempotent") Idempotent ∷
     spelled (codes "broadcast") Broadcast ∷
     spelled (codes "maybe") Maybe ∷ []
+
+-- words with which an attribute begins in the windows language, and names in C706
+abbrev pub windows_words : List Spelled
+windows_words = spelled (codes "any_size") AnySize ∷ spelled (codes "any_length") AnyLength ∷ []
+
+abbrev pub windows_symbols : List ℕ
+windows_symbols = AnySize ∷ AnyLength ∷ []
 
 -- words that are banned anywhere: parts of C706 that this project leaves out
 abbrev pub banned_words : List Spelled

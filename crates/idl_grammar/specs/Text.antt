@@ -11,7 +11,9 @@ use Rattle.idl_lexer.specs.declared.tokens.TokenKind.TheVariants as kind
 use Rattle.idl_lexer.specs.declared.tokens.Token.{Token}
 use Rattle.idl_lexer.specs.Verdict.{Lexed}
 use Rattle.idl_lexer.specs.Pieces.{IsUuid}
-use Rattle.idl_grammar.specs.Symbols.{Spelled, reserved_words, attribute_words, banned_words, banned_attributes, marks}
+use Rattle.idl_grammar.specs.declared.language.Language.{Language}
+use Rattle.idl_grammar.specs.declared.language.Language.TheVariants.{C706, Windows}
+use Rattle.idl_grammar.specs.Symbols.{Spelled, reserved_words, attribute_words, banned_words, banned_attributes, windows_words, marks}
 use Rattle.idl_grammar.specs.Symbols as symbol
 
 -- ## Texts and phrases
@@ -156,27 +158,32 @@ abbrev pub symbol_among : List Spelled → ℕ → List ℕ → ℕ
 symbol_among [] otherwise octets = otherwise
 symbol_among (s ∷ others) otherwise octets = if bytes_eq octets s.octets then s.symbol else symbol_among others otherwise octets
 
--- all words that are no mere names
+-- all words of C706 that are no mere names
 unfoldable pub words : List Spelled
 words = reserved_words ++ attribute_words ++ banned_words ++ banned_attributes
 
--- the symbol of a token
-unfoldable pub symbol_of : TokenKind → List ℕ → ℕ
-symbol_of kind.Word octets = symbol_among words symbol.Name octets
-symbol_of kind.Uuid octets = symbol.UuidValue
-symbol_of kind.Number octets = symbol.Number
-symbol_of kind.Char octets = symbol.Character
-symbol_of kind.Str octets = symbol.Quoted
-symbol_of kind.Mark octets = symbol_among marks symbol.Unknown octets
+-- The symbol of a word. Here alone a language counts.
+unfoldable pub symbol_of_word : Language → List ℕ → ℕ
+symbol_of_word C706 octets = symbol_among words symbol.Name octets
+symbol_of_word Windows octets = symbol_among words (symbol_among windows_words symbol.Name octets) octets
 
-abbrev pub lexeme_of : List ℕ → Token → Lexeme
-lexeme_of text t =
+-- the symbol of a token
+unfoldable pub symbol_of : Language → TokenKind → List ℕ → ℕ
+symbol_of language kind.Word octets = symbol_of_word language octets
+symbol_of language kind.Uuid octets = symbol.UuidValue
+symbol_of language kind.Number octets = symbol.Number
+symbol_of language kind.Char octets = symbol.Character
+symbol_of language kind.Str octets = symbol.Quoted
+symbol_of language kind.Mark octets = symbol_among marks symbol.Unknown octets
+
+abbrev pub lexeme_of : Language → List ℕ → Token → Lexeme
+lexeme_of language text t =
     let octets = slice_range text t.from t.to in
-    record { symbol = symbol_of t.kind octets; at = t.from; octets = octets }
+    record { symbol = symbol_of language t.kind octets; at = t.from; octets = octets }
 
 -- the tokens of a text that was lexed
-abbrev pub lexemes : Lexed → Text
-lexemes lexed = map (lexeme_of lexed.text) lexed.tokens
+abbrev pub lexemes : Language → Lexed → Text
+lexemes language lexed = map (lexeme_of language lexed.text) lexed.tokens
 
 -- ### What words and UUIDs are
 

@@ -42,6 +42,8 @@ pub data AttributeKind : Type 0 where
   Idempotent : AttributeKind
   Broadcast : AttributeKind
   Maybe : AttributeKind
+  AnySize : AttributeKind
+  AnyLength : AttributeKind
 
 pub record Attribute : Type 0 where
   pub at : ℕ

@@ -80,6 +80,10 @@ pub enum AttributeKind {
     Broadcast,
     /// `maybe`
     Maybe,
+    /// `any_size`: a maximum count that nothing states.
+    AnySize,
+    /// `any_length`: an offset and an actual count that nothing states.
+    AnyLength,
 }
 
 /// An attribute.

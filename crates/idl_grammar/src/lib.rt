@@ -15,6 +15,7 @@ mod declarators;
 mod expressions;
 mod fault;
 mod files;
+mod language;
 pub mod laws;
 mod refusal;
 mod types;
@@ -25,6 +26,7 @@ pub use declarators::{Bound, Declarator, Init};
 pub use expressions::{BinaryOperator, Expr, Operand, UnaryOperator};
 pub use fault::SyntaxFault;
 pub use files::{Export, Import, Parameter, Parameters, Tree};
+pub use language::{IdlFile, Language};
 pub use refusal::Refusal;
 pub use types::{
     Arm, Case, Discriminant, Enumerator, IntegerType, Label, Member, SimpleType, SwitchType,

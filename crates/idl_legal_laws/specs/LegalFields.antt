@@ -5,7 +5,7 @@ use Rattle.nd_types.specs.declared.types.Attr.TheVariants.{Size, Max, Length, La
 use Rattle.nd_types.specs.declared.types.Operation.{Operation}
 use Rattle.nd_types.specs.declared.TheConstants.{OPERATION_LIMIT, PARAM_LIMIT, MEMBER_LIMIT}
 use Rattle.nd_types.specs.Table.{Table, type_at}
-use Rattle.nd_types.specs.Kinds.{is_integer, is_switch_type, is_array, is_pointer, is_reference, is_varying_array, is_conformant_array}
+use Rattle.nd_types.specs.Kinds.{is_integer, is_switch_type, is_pointer, is_reference, is_varying_array, is_conformant_array}
 use Rattle.nd_types.specs.Kinds.{is_conformant_text}
 use Rattle.nd_types.specs.Fields.{all_fields, are_ordered, has_attr, has_size, has_range_attr, subject_type, all_variables}
 use Rattle.nd_types.specs.Legal.{implies, all_params, is_handle, is_in_table, result_passes, has_other_variables, is_switch_attr, is_switched, is_in}
@@ -21,10 +21,7 @@ pub record HasLegalFields (types : Table) (operations : List Operation) : Type 0
       (λ p. implies (has_size p.field)
       (is_conformant_array (subject_type types p.field) || is_conformant_text (subject_type types p.field))) types operations ≡ true
   pub one_size : all_fields (λ p. not (has_attr Size p.field && has_attr Max p.field)) types operations ≡ true
-  pub conformant_sized : all_fields (λ p. implies (is_conformant_array (type_at types p.field.of.0)) (has_size p.field)) types operations ≡ true
   pub varying : all_fields (λ p. implies (has_range_attr p.field) (is_varying_array (subject_type types p.field))) types operations ≡ true
-  pub varying_sized : all_fields (λ p. implies (has_range_attr p.field) (is_array (type_at types p.field.of.0) || has_size p.field)) types operations
-      ≡ true
   pub one_length : all_fields (λ p. not (has_attr Length p.field && has_attr Last p.field)) types operations ≡ true
   pub count_variables : all_fields (all_variables (λ a. not (is_switch_attr a)) is_integer types) types operations ≡ true
   pub switched : all_fields (λ p. implies (is_switched types p.field.of.0) (has_attr Switch p.field)) types operations ≡ true

@@ -7,6 +7,7 @@ use Rattle.std.proofs.lemmas.List.{append_assoc, append-nil, map-append, drop_mo
 use Rattle.std.proofs.lemmas.List.Concat.{flat_map-cons}
 use Rattle.std.proofs.Math.Seq.{drop-append_seam}
 use Rattle.nd_base.specs.declared.octets.Place.{Place}
+use Rattle.idl_grammar.specs.declared.language.Language.{Language}
 use Rattle.idl_grammar.specs.declared.words.Spelling.{Spelling}
 use Rattle.idl_grammar.specs.declared.files.Import as import
 use Rattle.idl_grammar.specs.Seen.{seen_import}
@@ -402,15 +403,15 @@ module _ (p : Point) (place : Place) (name : List ℕ) (few : length p.state.sou
       (omega arith) few
 
   pub enters_went : {A : Type 0} (q r : Point) (e : Ended) (result : Result A NameFault) → file_number p.state.sources name ≡ None → length p.state.sources < most_files
-      → IsLoaded p.held p.state.sources name q.state.sources e → q.state.ended ≡ p.state.ended → q.state.known ≡ p.state.known → q.held ≡ p.held
+      → IsLoaded p.state.language p.held p.state.sources name q.state.sources e → q.state.language ≡ p.state.language → q.state.ended ≡ p.state.ended → q.state.known ≡ p.state.known → q.held ≡ p.held
       → Asked p.asked p.state.sources q.asked q.state.sources → p.faults ≤ q.faults → p.absences ≤ q.absences → length p.state.sources ≤ length q.state.sources
       → Went q (all_of e.file e.tree) r [] result → Went p (Load place name ∷ []) r [] result
-  enters_went {A} q r e result new room loaded ended_is known_is held_is asked later absences_later more w =
+  enters_went {A} q r e result new room loaded language_is ended_is known_is held_is asked later absences_later more w =
       let first : Went {A = ℕ} p (Load place name ∷ []) q (all_of e.file e.tree ++ []) (Ok 0) = record {
         leads = λ rest x w. walk.enters p.state place name rest x loaded.text e.tree (record { new = new; room = room }) loaded.content loaded.read.is_file
-            (subst (λ (d : List Due). Walk p.held (record { sources = and_source p.state.sources name loaded.text; ended = p.state.ended; known = p.state.known }) d x)
+            (subst (λ (d : List Due). Walk p.held (record { language = p.state.language; sources = and_source p.state.sources name loaded.text; ended = p.state.ended; known = p.state.known }) d x)
             (ap (λ n. all_of n e.tree ++ rest) loaded.read.number)
-            (subst (λ (s : State). Walk p.held s (all_of e.file e.tree ++ rest) x) (same_state q.state loaded.text loaded.read.sources ended_is known_is)
+            (subst (λ (s : State). Walk p.held s (all_of e.file e.tree ++ rest) x) (same_state q.state loaded.text language_is loaded.read.sources ended_is known_is)
             (subst (λ (d : List Due). Walk p.held q.state d x) (ap (λ l. l ++ rest) (append-nil (all_of e.file e.tree))) w)));
         same = held_is;
         asked = asked;
@@ -423,12 +424,13 @@ module _ (p : Point) (place : Place) (name : List ℕ) (few : length p.state.sou
       } in
       goes_on p q r (Load place name ∷ []) (all_of e.file e.tree) [] 0 result first w
     where
-      same_state : (s : State) (text : List ℕ) → s.sources ≡ and_source p.state.sources name text → s.ended ≡ p.state.ended → s.known ≡ p.state.known
-          → s ≡ record { sources = and_source p.state.sources name text; ended = p.state.ended; known = p.state.known }
-      same_state s text a b c =
-          ap (λ x. record { sources = x; ended = s.ended; known = s.known }) a
-          ∙ (ap (λ x. record { sources = and_source p.state.sources name text; ended = x; known = s.known }) b
-          ∙ ap (λ x. record { sources = and_source p.state.sources name text; ended = p.state.ended; known = x }) c)
+      same_state : (s : State) (text : List ℕ) → s.language ≡ p.state.language → s.sources ≡ and_source p.state.sources name text → s.ended ≡ p.state.ended → s.known ≡ p.state.known
+          → s ≡ record { language = p.state.language; sources = and_source p.state.sources name text; ended = p.state.ended; known = p.state.known }
+      same_state s text l a b c =
+          ap (λ x. record { language = x; sources = s.sources; ended = s.ended; known = s.known }) l
+          ∙ (ap (λ x. record { language = p.state.language; sources = x; ended = s.ended; known = s.known }) a
+          ∙ (ap (λ x. record { language = p.state.language; sources = and_source p.state.sources name text; ended = x; known = s.known }) b
+          ∙ ap (λ x. record { language = p.state.language; sources = and_source p.state.sources name text; ended = p.state.ended; known = x }) c))
 
 -- ## The whole walk
 
@@ -472,18 +474,20 @@ pub all_asked : {A : Type 0} (p q : Point) (all : List Due) (r : Result A NameFa
     → q.asked ≡ p.asked ++ names_of (drop (length p.state.sources) q.state.sources)
 all_asked p q all r w = asked_past w.asked
 
-pub asks_along : {A : Type 0} (p q : Point) (main : List Source) (t : Tree) (r : Result A NameFault) → p.state ≡ start main → Went p (all_of 0 t) q [] r
-    → AsksAlong p.held main t p.asked q.asked
-asks_along p q main t r is w = record {
+pub asks_along : {A : Type 0} (p q : Point) (language : Language) (main : List Source) (t : Tree) (r : Result A NameFault) → p.state ≡ start language main → Went p (all_of 0 t) q [] r
+    → AsksAlong language p.held main t p.asked q.asked
+asks_along p q language main t r is w = record {
   reached = q.state.sources;
-  walk = subst (λ (d : List Due). Walk p.held (start main) d (Stopped q.state.sources fault.Memory)) (append-nil (all_of 0 t))
+  walk = subst (λ (d : List Due). Walk p.held (start language main) d (Stopped q.state.sources fault.Memory)) (append-nil (all_of 0 t))
       (subst (λ (x : State). Walk p.held x (all_of 0 t ++ []) (Stopped q.state.sources fault.Memory)) is (all_short p q (all_of 0 t) r w));
   asked = subst (λ (l : List Source). q.asked ≡ p.asked ++ names_of (drop (length l) q.state.sources)) (ap (λ x. x.sources) is) (asked_past w.asked);
 }
 
-pub at_start : (main : List Source) (files : List Ended) (names : Known) → files ≡ [] → names ≡ nothing
-    → ◌≡◌ {A = State} (record { sources = main; ended = files; known = names }) (start main)
-at_start main files names e f = ap (λ x. record { sources = main; ended = x; known = names }) e ∙ ap (λ x. record { sources = main; ended = []; known = x }) f
+pub at_start : (language : Language) (main : List Source) (files : List Ended) (names : Known) → files ≡ [] → names ≡ nothing
+    → ◌≡◌ {A = State} (record { language = language; sources = main; ended = files; known = names }) (start language main)
+at_start language main files names e f =
+    ap (λ x. record { language = language; sources = main; ended = x; known = names }) e
+    ∙ ap (λ x. record { language = language; sources = main; ended = []; known = x }) f
 
 pub at_error : {A : Type 0} (r : Result A NameFault) (f : NameFault) (P : NameFault → Type 0) → IsErrAnd r (λ y. y ≡ f) → P f → IfErr r P
 at_error (Ok a) f P h x = tt

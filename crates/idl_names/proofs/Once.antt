@@ -8,6 +8,7 @@ use Rattle.idl_lexer.specs.Verdict.{Lexed, place_of, IsVerdict, AreTokens, Cut, 
 use Rattle.idl_lexer.specs.declared.tokens.LexKind.{LexKind}
 use Rattle.idl_lexer.specs.declared.tokens.Token.{Token}
 use Rattle.idl_lexer.proofs.OneVerdict.{one_verdict}
+use Rattle.idl_grammar.specs.declared.language.Language.{Language}
 use Rattle.idl_grammar.specs.Text.{lexemes}
 use Rattle.idl_grammar.specs.Tree.{Tree}
 use Rattle.idl_grammar.specs.Answers.{file_answer}
@@ -36,12 +37,12 @@ one_lexed text l m a b x y =
     let e : l.tokens ≡ m.tokens = same_tokens l.tokens m.tokens (one_verdict text (Cut m.tokens) (Cut l.tokens) y x) in
     ap (λ (t : List ℕ). record { text = t; tokens = l.tokens }) (a ∙ sym b) ∙ ap (λ (ts : List Token). record { text = m.text; tokens = ts }) e
 
-pub one_answer : (text : List ℕ) (l m : Lexed) (a b : Result Tree Fault) → IsRead text l a → IsRead text m b → a ≡ b
-one_answer text l m a b x y =
+pub one_answer : (language : Language) (text : List ℕ) (l m : Lexed) (a b : Result Tree Fault) → IsRead language text l a → IsRead language text m b → a ≡ b
+one_answer language text l m a b x y =
     let e : l ≡ m = one_lexed text l m x.text_is y.text_is x.tokens y.tokens in
-    let p : a ≡ file_answer 64 129 (lexemes l) = file_answered_alone 64 129 (omega arith) (omega arith) (lexemes l) (lexemes_real l) a x.answered in
-    let q : b ≡ file_answer 64 129 (lexemes m) = file_answered_alone 64 129 (omega arith) (omega arith) (lexemes m) (lexemes_real m) b y.answered in
-    p ∙ (ap (λ (n : Lexed). file_answer 64 129 (lexemes n)) e ∙ sym q)
+    let p : a ≡ file_answer 64 129 (lexemes language l) = file_answered_alone 64 129 (omega arith) (omega arith) (lexemes language l) (lexemes_real language l) a x.answered in
+    let q : b ≡ file_answer 64 129 (lexemes language m) = file_answered_alone 64 129 (omega arith) (omega arith) (lexemes language m) (lexemes_real language m) b y.answered in
+    p ∙ (ap (λ (n : Lexed). file_answer 64 129 (lexemes language n)) e ∙ sym q)
 
 one_syntax : (f g : SyntaxFault) (j k : ℕ) (a b : Fault) → IsSyntaxFault f j a → IsSyntaxFault g k b → a ≡ b → (f ≡ g) × (j ≡ k)
 one_syntax syntax.Memory g j k a b x y e = absurd x
@@ -62,12 +63,12 @@ same_trees a b e = cc
 no_clash : {B : Type 0} (a : Tree) (b : Fault) → ◌≡◌ {A = Result Tree Fault} (Ok a) (Err b) → B
 no_clash a b e = absurd (cc)
 
-pub one_tree : (text : List ℕ) (a b : Tree) → IsFile text a → IsFile text b → a ≡ b
-one_tree text a b x y = same_trees a b (one_answer text x.lexed y.lexed (Ok a) (Ok b) x.read y.read)
+pub one_tree : (language : Language) (text : List ℕ) (a b : Tree) → IsFile language text a → IsFile language text b → a ≡ b
+one_tree language text a b x y = same_trees a b (one_answer language text x.lexed y.lexed (Ok a) (Ok b) x.read y.read)
 
-one_fault : (text : List ℕ) (at at' : ℕ) (f f' : SyntaxFault) → IsNoFile text at f → IsNoFile text at' f' → (f ≡ f') × (at ≡ at')
-one_fault text at at' f f' x y =
-    let told : x.told ≡ y.told = same_errors x.told y.told (one_answer text x.lexed y.lexed (Err x.told) (Err y.told) x.read y.read) in
+one_fault : (language : Language) (text : List ℕ) (at at' : ℕ) (f f' : SyntaxFault) → IsNoFile language text at f → IsNoFile language text at' f' → (f ≡ f') × (at ≡ at')
+one_fault language text at at' f f' x y =
+    let told : x.told ≡ y.told = same_errors x.told y.told (one_answer language text x.lexed y.lexed (Err x.told) (Err y.told) x.read y.read) in
     let same = one_syntax f f' x.token y.token x.told y.told x.is_told y.is_told told in
     let lexed : x.lexed ≡ y.lexed = one_lexed text x.lexed y.lexed x.read.text_is y.read.text_is x.read.tokens y.read.tokens in
     (same.0, x.octet ∙ (ap (λ (l : Lexed). place_of l x.token) lexed ∙ (ap (λ (k : ℕ). place_of y.lexed k) same.1 ∙ sym y.octet)))
@@ -78,8 +79,8 @@ one_refusal text at at' kind kind' x y = sym (one_verdict text (Refused at kind)
 cut_or_refused : {B : Type 0} (text : List ℕ) (at : ℕ) (kind : LexKind) (tokens : List Token) → IsVerdict text (Refused at kind) → AreTokens text tokens → B
 cut_or_refused text at kind tokens x y = let e : Refused at kind ≡ Cut tokens = one_verdict text (Cut tokens) (Refused at kind) y x in absurd (cc)
 
-file_or_fault : {B : Type 0} (text : List ℕ) (at : ℕ) (f : SyntaxFault) (t : Tree) → IsFile text t → IsNoFile text at f → B
-file_or_fault text at f t x y = no_clash t y.told (one_answer text x.lexed y.lexed (Ok t) (Err y.told) x.read y.read)
+file_or_fault : {B : Type 0} (language : Language) (text : List ℕ) (at : ℕ) (f : SyntaxFault) (t : Tree) → IsFile language text t → IsNoFile language text at f → B
+file_or_fault language text at f t x y = no_clash t y.told (one_answer language text x.lexed y.lexed (Ok t) (Err y.told) x.read y.read)
 
 known_or_new : {B : Type 0} (n : ℕ) (o : Option ℕ) → o ≡ Some n → o ≡ None → B
 known_or_new n o e h = absurd (cc)
@@ -158,22 +159,22 @@ module _ (f : List ℕ → Option (List ℕ)) (fails : List ℕ → Bool) where
       cut_or_refused text at' kind w.lexed.tokens (subst (λ (l : List ℕ). IsVerdict l (Refused at' kind)) (one_text f name other text d c) v) w.read.tokens
   one_told_ending p q (walk.no_file s place name rest text at n due c w) (walk.no_file _ _ _ _ other at' m due' d v) fv fw =
       let e : other ≡ text = one_text f name other text d c in
-      let r = one_fault text at at' n m w (subst (λ (l : List ℕ). IsNoFile l at' m) e v) in
+      let r = one_fault s.language text at at' n m w (subst (λ (l : List ℕ). IsNoFile s.language l at' m) e v) in
       let r0 : n ≡ m = r.0 in
       let r1 : at ≡ at' = r.1 in
       cc
   one_told_ending p q (walk.no_file s place name rest text at n due c w) (walk.enters _ _ _ _ x other t due' d g v) fv fw =
-      file_or_fault other at n t g (subst (λ (l : List ℕ). IsNoFile l at n) (one_text f name text other c d) w)
+      file_or_fault s.language other at n t g (subst (λ (l : List ℕ). IsNoFile s.language l at n) (one_text f name text other c d) w)
   one_told_ending p q (walk.enters s place name rest e text t due c h w) (walk.cycle _ _ _ _ m g d) fv fw = known_or_new m (file_number s.sources name) g due.new
   one_told_ending p q (walk.enters s place name rest e text t due c h w) (walk.again _ _ _ _ x m g d v) fv fw = known_or_new m (file_number s.sources name) g due.new
   one_told_ending p q (walk.enters s place name rest e text t due c h w) (walk.too_many _ _ _ _ g d) fv fw = room_or_full (length s.sources) due.room d
   one_told_ending p q (walk.enters s place name rest e text t due c h w) (walk.uncut _ _ _ _ other at' kind due' d v) fv fw =
       cut_or_refused text at' kind h.lexed.tokens (subst (λ (l : List ℕ). IsVerdict l (Refused at' kind)) (one_text f name other text d c) v) h.read.tokens
   one_told_ending p q (walk.enters s place name rest e text t due c h w) (walk.no_file _ _ _ _ other at' m due' d v) fv fw =
-      file_or_fault text at' m t h (subst (λ (l : List ℕ). IsNoFile l at' m) (one_text f name other text d c) v)
+      file_or_fault s.language text at' m t h (subst (λ (l : List ℕ). IsNoFile s.language l at' m) (one_text f name other text d c) v)
   one_told_ending p q (walk.enters s place name rest e text t due c h w) (walk.enters _ _ _ _ x other u due' d g v) fv fw =
       let same : other ≡ text = one_text f name other text d c in
-      let tree : u ≡ t = one_tree text u t (subst (λ (l : List ℕ). IsFile l u) same g) h in
+      let tree : u ≡ t = one_tree s.language text u t (subst (λ (l : List ℕ). IsFile s.language l u) same g) h in
       let told : Told fails (Some f) (with_source s name text) (all_of (length s.sources) t ++ rest) x =
       subst (λ (y : Tree). Told fails (Some f) (with_source s name text) (all_of (length s.sources) y ++ rest) x) tree
       (subst (λ (l : List ℕ). Told fails (Some f) (with_source s name l) (all_of (length s.sources) u ++ rest) x) same (v, fw.1)) in

@@ -7,6 +7,7 @@ use Rattle.nd_base.specs.Over.{IsContent}
 use Rattle.idl_lexer.specs.Verdict.{Lexed, place_of, IsVerdict, Refused}
 use Rattle.idl_lexer.specs.declared.tokens.LexFault.TheVariants as lex_fault
 use Rattle.idl_grammar.specs.declared.fault.SyntaxFault.{SyntaxFault}
+use Rattle.idl_grammar.specs.declared.language.Language.{Language}
 use Rattle.idl_grammar.specs.declared.fault.SyntaxFault.TheVariants as syntax
 use Rattle.idl_scope.specs.declared.name_fault.NameFault.{NameFault}
 use Rattle.idl_scope.specs.declared.name_fault.NameFault.TheVariants as fault
@@ -14,11 +15,11 @@ use Rattle.idl_scope.specs.Known.{Ended}
 use Rattle.idl_names.specs.Walk.{IsFile, IsNoFile, Source, and_source, State, Due, Load, Stopped, Walk, IsDue}
 
 -- how the text of a file is at fault, unless memory was wanting
-abbrev pub IsFaultOf : ℕ → List ℕ → NameFault → Type 0
-IsFaultOf file text fault.Memory = Unit {0}
-IsFaultOf file text (fault.Lex n (lex_fault.At at kind)) = (n ≡ file) × IsVerdict text (Refused at kind)
-IsFaultOf file text (fault.Syntax n at f) = (n ≡ file) × IsNoFile text at f
-IsFaultOf file text _ = ⊥
+abbrev pub IsFaultOf : Language → ℕ → List ℕ → NameFault → Type 0
+IsFaultOf language file text fault.Memory = Unit {0}
+IsFaultOf language file text (fault.Lex n (lex_fault.At at kind)) = (n ≡ file) × IsVerdict text (Refused at kind)
+IsFaultOf language file text (fault.Syntax n at f) = (n ≡ file) × IsNoFile language text at f
+IsFaultOf language file text _ = ⊥
 
 -- the token of a fault is one of the text, or its end
 abbrev pub IsOfText : Lexed → SyntaxFault → Type 0
@@ -35,8 +36,8 @@ told_syntax file l (syntax.Deep k) = fault.Syntax file (place_of l k) (syntax.De
 told_syntax file l (syntax.Banned k) = fault.Syntax file (place_of l k) (syntax.Banned k)
 
 -- a text was added under a name, and is this file
-pub record IsRead (before : List Source) (name text : List ℕ) (after : List Source) (e : Ended) : Type 0 where
-  pub is_file : IsFile text e.tree
+pub record IsRead (language : Language) (before : List Source) (name text : List ℕ) (after : List Source) (e : Ended) : Type 0 where
+  pub is_file : IsFile language text e.tree
   pub number : e.file ≡ length before
   pub sources : after ≡ and_source before name text
 
@@ -47,12 +48,14 @@ told_load file file_fault.Failed = fault.Failed file
 told_load file file_fault.Memory = fault.Memory
 
 -- a file was loaded under a name
-pub record IsLoaded (held : Option (List ℕ → Option (List ℕ))) (before : List Source) (name : List ℕ) (after : List Source) (e : Ended) : Type 0 where
+pub record IsLoaded (language : Language) (held : Option (List ℕ → Option (List ℕ))) (before : List Source) (name : List ℕ) (after : List Source)
+    (e : Ended) : Type 0 where
   pub text : List ℕ
   pub content : IsContent held name text
-  pub read : IsRead before name text after e
+  pub read : IsRead language before name text after e
 
 -- a walk stops at the import of this name
-abbrev pub IsLoadFault : Option (List ℕ → Option (List ℕ)) → List Source → (name : List ℕ) → List Source → NameFault → Type 0
-IsLoadFault held before name after f =
-    (s : State) (place : Place) (rest : List Due) → s.sources ≡ before → IsDue before name → Walk held s (Load place name ∷ rest) (Stopped after f)
+abbrev pub IsLoadFault : Language → Option (List ℕ → Option (List ℕ)) → List Source → (name : List ℕ) → List Source → NameFault → Type 0
+IsLoadFault language held before name after f =
+    (s : State) (place : Place) (rest : List Due) → s.language ≡ language → s.sources ≡ before → IsDue before name
+    → Walk held s (Load place name ∷ rest) (Stopped after f)

@@ -11,6 +11,7 @@ use Rattle.idl_lexer.specs.Verdict.{Lexed, place_of, AreTokens, IsVerdict, Refus
 use Rattle.idl_grammar.specs.declared.fault.SyntaxFault.{SyntaxFault}
 use Rattle.idl_grammar.specs.declared.fault.SyntaxFault.TheVariants as syntax_fault
 use Rattle.idl_grammar.specs.declared.words.Spelling.{Spelling}
+use Rattle.idl_grammar.specs.declared.language.Language.{Language}
 use Rattle.idl_grammar.specs.Text.{Depth, Ban, lexemes}
 use Rattle.idl_grammar.specs.ReadPhrases.{Fault, Syntax, Passes}
 use Rattle.idl_grammar.specs.Tree.{Tree}
@@ -22,18 +23,18 @@ use Rattle.idl_scope.specs.Value.{escaped}
 use Rattle.idl_scope.specs.Steps.{Step, attribute_steps, imports_of, declaration_steps}
 use Rattle.idl_scope.specs.Known.{Known, nothing, passed, place_in, first_undefined, Ended, ended, has_ended}
 
--- ## What the text of a file is read as: its tree, or its first fault
+-- ## What the text of a file is read as in a language: its tree, or its first fault
 
 -- The text is cut into tokens, and this is answered on them by the grammar.
-pub record IsRead (text : List ℕ) (lexed : Lexed) (answer : Result Tree Fault) : Type 0 where
+pub record IsRead (language : Language) (text : List ℕ) (lexed : Lexed) (answer : Result Tree Fault) : Type 0 where
   pub text_is : lexed.text ≡ text
   pub tokens : AreTokens text lexed.tokens
-  pub answered : Answers grammar.file (lexemes lexed) answer
+  pub answered : Answers grammar.file (lexemes language lexed) answer
 
 -- the text is a file of this tree
-pub record IsFile (text : List ℕ) (tree : Tree) : Type 0 where
+pub record IsFile (language : Language) (text : List ℕ) (tree : Tree) : Type 0 where
   pub lexed : Lexed
-  pub read : IsRead text lexed (Ok tree)
+  pub read : IsRead language text lexed (Ok tree)
 
 -- the token of a fault, and the fault as the grammar has it
 abbrev pub IsSyntaxFault : SyntaxFault → ℕ → Fault → Type 0
@@ -43,12 +44,12 @@ IsSyntaxFault (syntax_fault.Deep k) token f = (token ≡ k) × (f ≡ Passes Dep
 IsSyntaxFault (syntax_fault.Banned k) token f = (token ≡ k) × (f ≡ Passes Ban k)
 
 -- The text is cut into tokens and is no file, for a fault at a token that begins at this octet.
-pub record IsNoFile (text : List ℕ) (at : ℕ) (fault : SyntaxFault) : Type 0 where
+pub record IsNoFile (language : Language) (text : List ℕ) (at : ℕ) (fault : SyntaxFault) : Type 0 where
   pub lexed : Lexed
   pub told : Fault
   pub token : ℕ
   pub is_told : IsSyntaxFault fault token told
-  pub read : IsRead text lexed (Err told)
+  pub read : IsRead language text lexed (Err told)
   pub octet : at ≡ place_of lexed token
 
 -- ## Files by the names under which they are loaded
@@ -104,6 +105,8 @@ names_of sources = map (λ s. s.name) sources
 
 -- how far a walk has come
 pub record State : Type 0 where
+  -- the language of all files
+  pub language : Language
   -- the main file, then each file whose load was begun, in that order
   pub sources : List Source
   -- the files whose resolving has ended, in that order
@@ -181,11 +184,11 @@ pub data Walk (held : Option (List ℕ → Option (List ℕ))) : State → List 
       → Walk held s (Load place name ∷ rest) (Stopped (and_source s.sources name text) (fault.Lex (length s.sources) (lex_fault.At at kind)))
   -- it is no file of the language
   no_file : (s : State) (place : Place) (name : List ℕ) (rest : List Due) (text : List ℕ) (at : ℕ) (f : SyntaxFault) → IsDue s.sources name
-      → IsContent held name text → IsNoFile text at f
+      → IsContent held name text → IsNoFile s.language text at f
       → Walk held s (Load place name ∷ rest) (Stopped (and_source s.sources name text) (fault.Syntax (length s.sources) at f))
   -- it is walked in the place of its import
   enters : (s : State) (place : Place) (name : List ℕ) (rest : List Due) (e : Ending) (text : List ℕ) (t : Tree) → IsDue s.sources name
-      → IsContent held name text → IsFile text t
+      → IsContent held name text → IsFile s.language text t
       → Walk held (with_source s name text) (all_of (length s.sources) t ++ rest) e → Walk held s (Load place name ∷ rest) e
   -- Running out of memory may stop a walk anywhere, also in a load or after it.
   short : (s : State) (rest : List Due) → Walk held s rest (Stopped s.sources fault.Memory)
@@ -195,32 +198,34 @@ pub data Walk (held : Option (List ℕ → Option (List ℕ))) : State → List 
       → Walk held s (Load place name ∷ rest) (Stopped (and_source s.sources name text) fault.Memory)
 
 -- A walk begins with the main file alone, and no names.
-abbrev pub start : List Source → State
-start main = record { sources = main; ended = []; known = nothing }
+abbrev pub start : Language → List Source → State
+start language main = record { language = language; sources = main; ended = []; known = nothing }
 
 -- The whole walk is done, and each tag that was used has its body.
-pub record IsResolved (held : Option (List ℕ → Option (List ℕ))) (main : List Source) (t : Tree) (s : State) : Type 0 where
-  pub walk : Walk held (start main) (all_of 0 t) (Done s)
+pub record IsResolved (language : Language) (held : Option (List ℕ → Option (List ℕ))) (main : List Source) (t : Tree) (s : State) : Type 0 where
+  pub walk : Walk held (start language main) (all_of 0 t) (Done s)
   pub whole : first_undefined s.known s.known.uses ≡ None
 
 -- The whole walk is done, and the first tag after pointers that has no body of its kind is there.
-pub record IsUndefined (held : Option (List ℕ → Option (List ℕ))) (main : List Source) (t : Tree) (sources : List Source)
+pub record IsUndefined (language : Language) (held : Option (List ℕ → Option (List ℕ))) (main : List Source) (t : Tree) (sources : List Source)
     (place : Place) : Type 0 where
   pub state : State
-  pub walk : Walk held (start main) (all_of 0 t) (Done state)
+  pub walk : Walk held (start language main) (all_of 0 t) (Done state)
   pub sources_are : sources ≡ state.sources
   pub first : first_undefined state.known state.known.uses ≡ Some place
 
-abbrev pub IsUndefinedFault : Option (List ℕ → Option (List ℕ)) → List Source → Tree → List Source → NameFault → Type 0
-IsUndefinedFault held main t sources (fault.Unknown place) = IsUndefined held main t sources place
-IsUndefinedFault held main t sources _ = ⊥
+abbrev pub IsUndefinedFault : Language → Option (List ℕ → Option (List ℕ)) → List Source → Tree → List Source → NameFault → Type 0
+IsUndefinedFault language held main t sources (fault.Unknown place) = IsUndefined language held main t sources place
+IsUndefinedFault language held main t sources _ = ⊥
 
 -- The first fault: of the walk, else of a tag after pointers.
-abbrev pub IsRefused : Option (List ℕ → Option (List ℕ)) → List Source → Tree → List Source → NameFault → Type 0
-IsRefused held main t sources f = Walk held (start main) (all_of 0 t) (Stopped sources f) ⊎ IsUndefinedFault held main t sources f
+abbrev pub IsRefused : Language → Option (List ℕ → Option (List ℕ)) → List Source → Tree → List Source → NameFault → Type 0
+IsRefused language held main t sources f =
+    Walk held (start language main) (all_of 0 t) (Stopped sources f) ⊎ IsUndefinedFault language held main t sources f
 
 -- The names that were asked for since are those of the files after the main one whose load a walk begins, in its order, up to where it stops.
-pub record AsksAlong (held : Option (List ℕ → Option (List ℕ))) (main : List Source) (t : Tree) (before after : List (List ℕ)) : Type 0 where
+pub record AsksAlong (language : Language) (held : Option (List ℕ → Option (List ℕ))) (main : List Source) (t : Tree)
+    (before after : List (List ℕ)) : Type 0 where
   pub reached : List Source
-  pub walk : Walk held (start main) (all_of 0 t) (Stopped reached fault.Memory)
+  pub walk : Walk held (start language main) (all_of 0 t) (Stopped reached fault.Memory)
   pub asked : after ≡ before ++ names_of (drop (length main) reached)

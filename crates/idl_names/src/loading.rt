@@ -1,6 +1,7 @@
 // Imported files.
 ghost use Rattle.std.specs.Prelude.{◌≡◌, ℕ, ◌≤◌, ◌<◌, List, [], length, IfOk, IfErr, OnOk, OnErr};
 ghost use Rattle.idl_lexer.specs.Verdict.{AreTokens};
+ghost use Rattle.idl_grammar.specs.declared.language.Language.{Language as LanguageValue};
 ghost use Rattle.idl_grammar.specs.Seen.{seen_tree};
 ghost use Rattle.idl_scope.specs.declared.name_fault.NameFault.TheVariants as faults;
 ghost use Rattle.idl_names.specs.Causes.{IsAbsent, IsFailed};
@@ -10,7 +11,7 @@ ghost use Rattle.idl_names.specs.Loads.{IsFaultOf, IsOfText, told_syntax, told_l
 ghost use Rattle.idl_scope.specs.Seen.{seen_file};
 
 use crate::{FILES_LIMIT, Sources};
-use idl_grammar::{SyntaxFault, Tree};
+use idl_grammar::{Language, SyntaxFault, Tree};
 use idl_lexer::{LexFault, Tokens, lex};
 use idl_parser::parse;
 use idl_scope::{FileTree, NameFault};
@@ -21,7 +22,7 @@ use std::alloc::Global;
 fn tokens_of(alloc: Global, file: u16, text: &[u8]) -> Result<Tokens, NameFault>
     ensures text { IfOk result (λ t. t.text ≡ text.now) }
     ensures tokens { IfOk result (λ t. AreTokens text.now t.tokens) }
-    ensures fault { IfErr result (IsFaultOf file text.now) }
+    ensures fault { (language : LanguageValue) → IfErr result (IsFaultOf language file text.now) }
 {
     match lex(alloc, text) {
         Ok(tokens) => Ok(tokens),
@@ -51,12 +52,12 @@ fn syntax_fault(file: u16, tokens: &Tokens, fault: SyntaxFault) -> NameFault
 }
 
 /// The tree of a file.
-fn tree_of(alloc: Global, file: u16, text: &[u8]) -> Result<Tree, NameFault>
-    ensures tree { IfOk result (λ t. IsFile text.now (seen_tree t)) }
-    ensures fault { IfErr result (IsFaultOf file text.now) }
+fn tree_of(alloc: Global, language: Language, file: u16, text: &[u8]) -> Result<Tree, NameFault>
+    ensures tree { IfOk result (λ t. IsFile language text.now (seen_tree t)) }
+    ensures fault { IfErr result (IsFaultOf language file text.now) }
 {
     let tokens = tokens_of(alloc, file, text)?;
-    match parse(alloc, &tokens) {
+    match parse(alloc, language, &tokens) {
         Ok(tree) => Ok(tree),
         Err(fault) => Err(syntax_fault(file, &tokens, fault)),
     }
@@ -79,6 +80,7 @@ fn begin(alloc: Global, sources: &mut Sources, name: &str) -> Result<u16, NameFa
 /// Gives a file that was loaded its text, and reads it.
 fn read(
     alloc: Global,
+    language: Language,
     sources: &mut Sources,
     file: u16,
     text: Octets,
@@ -87,10 +89,10 @@ fn read(
     ensures filled { (before : List Source) (name : List ℕ) → file ≡ length before → sources.old ≡ and_source before name []
         → sources.new ≡ and_source before name text }
     ensures number { IfOk result (λ f. f.file ≡ file) }
-    ensures tree { IfOk result (λ f. IsFile text (seen_tree f.tree)) }
-    ensures fault { IfErr result (IsFaultOf file text) }
+    ensures tree { IfOk result (λ f. IsFile language text (seen_tree f.tree)) }
+    ensures fault { IfErr result (IsFaultOf language file text) }
 {
-    let tree = tree_of(alloc, file, text.as_slice());
+    let tree = tree_of(alloc, language, file, text.as_slice());
     sources.fill(file, text);
     Ok(FileTree { file, tree: tree? })
 }
@@ -109,13 +111,14 @@ fn unloaded(file: u16, fault: FileFault) -> NameFault
 /// Adds a file, loads it, and reads it.
 pub(crate) fn load<F: Files>(
     alloc: Global,
+    language: Language,
     files: &mut F,
     sources: &mut Sources,
     name: &str,
 ) -> Result<FileTree, NameFault>
     requires { length sources.old < most_files }
-    ensures ok { IfOk result (λ f. IsLoaded (F.seen files.old).held sources.old name.now sources.new (seen_file f)) }
-    ensures err { IfErr result (IsLoadFault (F.seen files.old).held sources.old name.now sources.new) }
+    ensures ok { IfOk result (λ f. IsLoaded language (F.seen files.old).held sources.old name.now sources.new (seen_file f)) }
+    ensures err { IfErr result (IsLoadFault language (F.seen files.old).held sources.old name.now sources.new) }
     ensures absent { IfErr result (IsAbsent (F.seen files.old).absences (F.seen files.new).absences) }
     ensures failed { IfErr result (IsFailed (F.seen files.old).faults (F.seen files.new).faults) }
     ensures later { (F.seen files.old).faults ≤ (F.seen files.new).faults }
@@ -127,7 +130,7 @@ pub(crate) fn load<F: Files>(
 {
     let file = begin(alloc, sources, name)?;
     match files.load(alloc, name) {
-        Ok(text) => read(alloc, sources, file, text),
+        Ok(text) => read(alloc, language, sources, file, text),
         Err(fault) => Err(unloaded(file, fault)),
     }
 }

@@ -15,7 +15,7 @@ use crate::declarations::exports;
 use crate::loading::load;
 use crate::strings::file_named;
 use crate::walk::attributes;
-use idl_grammar::{Import, Spelling, Tree};
+use idl_grammar::{Import, Language, Spelling, Tree};
 use idl_scope::{FileTree, FileTrees, NameFault, NameTables, Scope};
 use nd_base::{Files, Place};
 use std::alloc::Global;
@@ -49,6 +49,7 @@ fn has_ended(files: &FileTrees, number: usize) -> bool
 #[cycle(files)]
 fn import<F: Files>(
     alloc: Global,
+    language: Language,
     files: &mut F,
     sources: &mut Sources,
     state: &mut WalkState,
@@ -56,9 +57,9 @@ fn import<F: Files>(
     string: &Spelling,
 ) -> Result<(), NameFault>
     requires { length sources.old ≤ most_files }
-    ensures { Went (point (F.seen files.old) (seen_state sources.old state.old))
+    ensures { Went (point (F.seen files.old) (seen_state language sources.old state.old))
         (load_of file string.now ∷ [])
-        (point (F.seen files.new) (seen_state sources.new state.new)) [] result }
+        (point (F.seen files.new) (seen_state language sources.new state.new)) [] result }
 {
     let place = Place {
         file,
@@ -70,8 +71,8 @@ fn import<F: Files>(
         Some(_) => Err(NameFault::ImportCycle { place }),
         None if sources.count() >= WALK_LIMIT => Err(NameFault::TooMany { place }),
         None => {
-            let loaded = load(alloc, files, sources, name.as_str())?;
-            whole(alloc, files, sources, state, loaded)
+            let loaded = load(alloc, language, files, sources, name.as_str())?;
+            whole(alloc, language, files, sources, state, loaded)
         }
     }
 }
@@ -80,6 +81,7 @@ fn import<F: Files>(
 #[cycle(files)]
 fn import_all<F: Files>(
     alloc: Global,
+    language: Language,
     files: &mut F,
     sources: &mut Sources,
     state: &mut WalkState,
@@ -87,12 +89,12 @@ fn import_all<F: Files>(
     strings: &[Spelling],
 ) -> Result<(), NameFault>
     requires { length sources.old ≤ most_files }
-    ensures { Went (point (F.seen files.old) (seen_state sources.old state.old))
+    ensures { Went (point (F.seen files.old) (seen_state language sources.old state.old))
         (map (load_of file) strings.now)
-        (point (F.seen files.new) (seen_state sources.new state.new)) [] result }
+        (point (F.seen files.new) (seen_state language sources.new state.new)) [] result }
 {
     for string in strings {
-        import(alloc, files, sources, state, file, string)?;
+        import(alloc, language, files, sources, state, file, string)?;
     }
     Ok(())
 }
@@ -101,6 +103,7 @@ fn import_all<F: Files>(
 #[cycle(files)]
 fn imports<F: Files>(
     alloc: Global,
+    language: Language,
     files: &mut F,
     sources: &mut Sources,
     state: &mut WalkState,
@@ -108,12 +111,20 @@ fn imports<F: Files>(
     list: &[Import],
 ) -> Result<(), NameFault>
     requires { length sources.old ≤ most_files }
-    ensures { Went (point (F.seen files.old) (seen_state sources.old state.old))
+    ensures { Went (point (F.seen files.old) (seen_state language sources.old state.old))
         (map (load_of file) (flat_map (λ m. m.files) (map seen_import list.now)))
-        (point (F.seen files.new) (seen_state sources.new state.new)) [] result }
+        (point (F.seen files.new) (seen_state language sources.new state.new)) [] result }
 {
     for one in list {
-        import_all(alloc, files, sources, state, file, one.files.as_slice())?;
+        import_all(
+            alloc,
+            language,
+            files,
+            sources,
+            state,
+            file,
+            one.files.as_slice(),
+        )?;
     }
     Ok(())
 }
@@ -122,29 +133,38 @@ fn imports<F: Files>(
 #[cycle(files)]
 fn whole<F: Files>(
     alloc: Global,
+    language: Language,
     files: &mut F,
     sources: &mut Sources,
     state: &mut WalkState,
     of: FileTree,
 ) -> Result<(), NameFault>
     requires { length sources.old ≤ most_files }
-    ensures went { Went (point (F.seen files.old) (seen_state sources.old state.old))
+    ensures went { Went (point (F.seen files.old) (seen_state language sources.old state.old))
         (all_of of.file (seen_tree of.tree))
-        (point (F.seen files.new) (seen_state sources.new state.new)) [] result }
+        (point (F.seen files.new) (seen_state language sources.new state.new)) [] result }
     ensures ended { OnOk result (has_ended (seen_files state.new.files) of.file ≡ true) }
 {
     let FileTree { file, tree } = of;
     attributes(&state.names, file, &tree.attributes)?;
-    imports(alloc, files, sources, state, file, tree.imports.as_slice())?;
+    imports(
+        alloc,
+        language,
+        files,
+        sources,
+        state,
+        file,
+        tree.imports.as_slice(),
+    )?;
     exports(alloc, &mut state.names, file, file == 0, &tree.exports)?;
     state.files.push(FileTree { file, tree })?;
     Ok(())
 }
 
-/// Reads each name of a file and of the files that it imports by the declarations before it, but the variable of an attribute, which is looked
-/// up in its own list later; and a tag after pointers by those of all files (C706, section 4.2). The files are walked depth first, each by
-/// its attributes, its imports and its declarations; one that is imported again is loaded once. Only the main file's operations are read. That
-/// all files have one space of names is this project's own choice.
+/// Reads each name of a file and of the files that it imports, all in one language, by the declarations before it, but the variable of an
+/// attribute, which is looked up in its own list later; and a tag after pointers by those of all files (C706, section 4.2). The files are walked
+/// depth first, each by its attributes, its imports and its declarations; one that is imported again is loaded once. Only the main file's
+/// operations are read. That all files have one space of names is this project's own choice.
 ///
 /// At every exit `sources` has, after the main file, each file that was asked for, in that order, and no other; a file whose load did not
 /// answer Ok has an empty text. A file is asked for where the walk comes to its import, and once.
@@ -155,19 +175,21 @@ fn whole<F: Files>(
 /// Takes memory for the trees of the files, and for an entry of each name.
 pub fn resolve<F: Files>(
     alloc: Global,
+    language: Language,
     files: &mut F,
     sources: &mut Sources,
     tree: Tree,
 ) -> Result<Scope, NameFault>
     requires { length sources.old ≡ 1 }
-    ensures scope { IfOk result (λ scope. IsResolved (F.seen files.old).held sources.old (seen_tree tree) (seen_scope sources.new scope)) }
-    ensures fault { IfErr result (IsRefused (F.seen files.old).held sources.old (seen_tree tree) sources.new) }
+    ensures scope { IfOk result (λ scope. IsResolved language (F.seen files.old).held sources.old (seen_tree tree)
+        (seen_scope language sources.new scope)) }
+    ensures fault { IfErr result (IsRefused language (F.seen files.old).held sources.old (seen_tree tree) sources.new) }
     ensures absent { IfErr result (IsAbsent (F.seen files.old).absences (F.seen files.new).absences) }
     ensures failed { IfErr result (IsFailed (F.seen files.old).faults (F.seen files.new).faults) }
     ensures later { (F.seen files.old).faults ≤ (F.seen files.new).faults }
     ensures absences_later { (F.seen files.old).absences ≤ (F.seen files.new).absences }
     ensures same { (F.seen files.new).held ≡ (F.seen files.old).held }
-    ensures asked { AsksAlong (F.seen files.old).held sources.old (seen_tree tree) (F.seen files.old).asked (F.seen files.new).asked }
+    ensures asked { AsksAlong language (F.seen files.old).held sources.old (seen_tree tree) (F.seen files.old).asked (F.seen files.new).asked }
     ensures all_asked { (F.seen files.new).asked ≡ (F.seen files.old).asked ++ names_of (drop (length sources.old) sources.new) }
 {
     let mut state = WalkState {
@@ -176,6 +198,7 @@ pub fn resolve<F: Files>(
     };
     whole(
         alloc,
+        language,
         files,
         sources,
         &mut state,

@@ -11,7 +11,7 @@ ghost use Rattle.idl_grammar.specs.Tree as tree;
 ghost use Rattle.idl_parser.specs.Answered.{Told};
 
 use crate::file::file;
-use idl_grammar::{Refusal, SyntaxFault, Tree};
+use idl_grammar::{Language, Refusal, SyntaxFault, Tree};
 use idl_lexer::Tokens;
 use idl_tokens::fault_of;
 use idl_tokens::lexemes::lexemes;
@@ -56,7 +56,7 @@ fn answer(parser: &Parser<'_>, fuel: usize, nesting: usize) -> Result<Tree, Synt
     }
 }
 
-/// The tree of an IDL file (C706, section 4.2).
+/// The tree of an IDL file in a language (C706, section 4.2).
 ///
 /// # Errors
 /// The first token with which no file goes on: Deep for a bracket with 64 open, or for an operator with 64 before it
@@ -64,12 +64,12 @@ fn answer(parser: &Parser<'_>, fuel: usize, nesting: usize) -> Result<Tree, Synt
 /// with the count of tokens where the text ends too early. Memory where memory was wanting.
 ///
 /// Takes memory for the tree and, while it runs, for one entry a token. Looks at each token a bounded number of times.
-pub fn parse(alloc: Global, tokens: &Tokens) -> Result<Tree, SyntaxFault>
-    ensures answer { Told (λ a. Answers grammar_file (grammar_lexemes tokens.now) a) result }
-    ensures only { (v : Result tree.Tree Fault) → Answers grammar_file (grammar_lexemes tokens.now) v → Told (λ a. v ≡ a) result }
+pub fn parse(alloc: Global, language: Language, tokens: &Tokens) -> Result<Tree, SyntaxFault>
+    ensures answer { Told (λ a. Answers grammar_file (grammar_lexemes language tokens.now) a) result }
+    ensures only { (v : Result tree.Tree Fault) → Answers grammar_file (grammar_lexemes language tokens.now) v → Told (λ a. v ≡ a) result }
 {
     let _count = tokens.count();
-    let list = lexemes(alloc, tokens)?;
+    let list = lexemes(alloc, language, tokens)?;
     let parser = Parser::new(alloc, &list);
     answer(&parser, fuel(), nesting())
 }

@@ -49,6 +49,8 @@ word_of tree.Default = codes "default"
 word_of tree.Idempotent = codes "idempotent"
 word_of tree.Broadcast = codes "broadcast"
 word_of tree.Maybe = codes "maybe"
+word_of tree.AnySize = codes "any_size"
+word_of tree.AnyLength = codes "any_length"
 
 abbrev pub string_word : List ℕ
 string_word = codes "string"
@@ -81,13 +83,13 @@ has_one_of words attributes = list_any (λ word. has word attributes) words
 abbrev pub classes : List (List ℕ)
 classes = codes "ref" ∷ codes "unique" ∷ codes "ptr" ∷ []
 
--- the attributes that state a maximum count
+-- the attributes of a maximum count: two state it by a variable, and of the third nothing does
 abbrev pub sizes : List (List ℕ)
-sizes = codes "size_is" ∷ codes "max_is" ∷ []
+sizes = codes "size_is" ∷ codes "max_is" ∷ codes "any_size" ∷ []
 
 -- the attributes that make an array varying
 abbrev pub lengths : List (List ℕ)
-lengths = codes "first_is" ∷ codes "length_is" ∷ codes "last_is" ∷ []
+lengths = codes "first_is" ∷ codes "length_is" ∷ codes "last_is" ∷ codes "any_length" ∷ []
 
 abbrev pub is_class : Attribute → Bool
 is_class a = has_one_of classes (a ∷ [])

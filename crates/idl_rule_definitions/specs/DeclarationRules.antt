@@ -28,7 +28,7 @@ use Rattle.idl_rule_definitions.specs.Numbering.{own_types}
 -- the words of the attributes that may stand in a place
 abbrev pub words_in : Position → List (List ℕ)
 words_in InHeader = codes "uuid" ∷ codes "version" ∷ codes "endpoint" ∷ codes "local" ∷ codes "pointer_default" ∷ []
-words_in InTypedef = codes "string" ∷ codes "context_handle" ∷ codes "switch_type" ∷ classes
+words_in InTypedef = codes "string" ∷ codes "context_handle" ∷ codes "switch_type" ∷ codes "any_length" ∷ classes
 words_in InTaggedType = codes "switch_type" ∷ []
 words_in InMember = codes "string" ∷ codes "switch_is" ∷ classes ++ sizes ++ lengths
 words_in InParameter = codes "in" ∷ codes "out" ∷ codes "context_handle" ∷ codes "string" ∷ codes "switch_is" ∷ classes ++ sizes ++ lengths

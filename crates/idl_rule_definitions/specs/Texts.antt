@@ -7,6 +7,8 @@ use Rattle.idl_lexer.specs.declared.tokens.TokenKind.{TokenKind}
 use Rattle.idl_lexer.specs.declared.tokens.TokenKind.TheVariants as token
 use Rattle.idl_lexer.specs.declared.tokens.Token.{Token}
 use Rattle.idl_lexer.specs.Verdict.{Lexed}
+use Rattle.idl_grammar.specs.declared.language.Language.{Language}
+use Rattle.idl_grammar.specs.declared.language.Language.TheVariants.{C706}
 use Rattle.idl_grammar.specs.Text.{lexemes}
 use Rattle.idl_grammar.specs.Tree.{Tree}
 use Rattle.idl_grammar.specs.Answers.{file_answer}
@@ -77,9 +79,13 @@ abbrev pub told_of_tree : Result Tree Fault → Option (Option Breach)
 told_of_tree (Ok t) = Some (first_broken (alone t))
 told_of_tree (Err f) = None
 
--- the rule that is reported of a text, or that none is; nothing where the text is no file
+-- the rule that is reported of a text in a language, or that none is; nothing where the text is no file
+abbrev pub told_in : Language → List ℕ → Option (Option Breach)
+told_in language text = told_of_tree (file_answer 64 129 (lexemes language (cut text)))
+
+-- the same in C706
 abbrev pub told_of : List ℕ → Option (Option Breach)
-told_of text = told_of_tree (file_answer 64 129 (lexemes (cut text)))
+told_of text = told_in C706 text
 
 abbrev pub rule_at : ℕ → ℕ → Option (Option Breach)
 rule_at rule at = Some (Some (breach rule (record { file = 0; at = at })))

@@ -204,7 +204,7 @@ abbrev pub text_of : IdlType → IdlType
 text_of (Text t None) = Text t None
 text_of t = Text t None
 
--- what a pointer with size_is or max_is points to
+-- what a pointer with size_is, max_is or any_size points to
 abbrev pub sized : Bool → IdlType → IdlType
 sized varying (Text t None) = Text t None
 sized varying (Array t None was_varying) = Array t None varying

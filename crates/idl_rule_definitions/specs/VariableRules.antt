@@ -104,8 +104,8 @@ has_wrong_switch s u =
     && (not (is_switched s u.type)
     || list_any (λ v. not (is_right_variable s u may_be_switched v)) (variables (switch_is_word ∷ []) u.construct.attributes))
 
--- Rule 33: `string` stands only on an array of char or byte or a pointer to one of these, without length_is, first_is or last_is. On what is a text
--- already, or a pointer to a conformant text, it changes nothing.
+-- Rule 33: `string` stands only on an array of char or byte or a pointer to one of these, without length_is, first_is, last_is or any_length. On what
+-- is a text already, or a pointer to a conformant text, it changes nothing.
 
 abbrev pub is_octet : IdlType → Bool
 is_octet (Basic primitive.Char) = true
@@ -121,8 +121,13 @@ may_be_text _ = false
 abbrev pub is_wrong_text : Use → Bool
 is_wrong_text u = has string_word u.construct.attributes && (not (may_be_text u.declared_as) || has_one_of lengths u.construct.attributes)
 
--- Rule 34: size_is and max_is stand only on a conformant array or a pointer that is no context handle, not both; a member or parameter whose own type
--- is a conformant array that is no text has one.
+-- Rule 34: size_is, max_is and any_size stand only on a conformant array or a pointer that is no context handle, and no two of them on one; a member
+-- or parameter whose own type is a conformant array that is no text has one.
+
+abbrev pub has_two_sizes : List Attribute → Bool
+has_two_sizes attributes =
+    (has (codes "size_is") attributes && has (codes "max_is") attributes)
+    || (has (codes "any_size") attributes && (has (codes "size_is") attributes || has (codes "max_is") attributes))
 
 abbrev pub may_be_sized : IdlType → Bool
 may_be_sized t = is_pointer t || is_conformant_array t || is_conformant_text t
@@ -135,12 +140,18 @@ is_listed _ = false
 abbrev pub is_wrongly_sized : Use → Bool
 is_wrongly_sized u =
     elim (has_one_of sizes u.construct.attributes) [
-      | true ↦ not (may_be_sized u.declared_as) || has (codes "size_is") u.construct.attributes && has (codes "max_is") u.construct.attributes
+      | true ↦ not (may_be_sized u.declared_as) || has_two_sizes u.construct.attributes
       | false ↦ is_listed u.construct.position && is_conformant_array u.type
     ]
 
--- Rule 35: length_is, first_is and last_is stand only on an array that is no text, or on a pointer with size_is or max_is that does not point to a
--- text; length_is and last_is not both.
+-- Rule 35: length_is, first_is, last_is and any_length stand only on an array that is no text, or on a pointer with size_is, max_is or any_size that
+-- does not point to a text; length_is and last_is not both, and any_length without the three others.
+
+abbrev pub has_two_lengths : List Attribute → Bool
+has_two_lengths attributes =
+    (has (codes "length_is") attributes && has (codes "last_is") attributes)
+    || (has (codes "any_length") attributes
+    && (has (codes "first_is") attributes || (has (codes "length_is") attributes || has (codes "last_is") attributes)))
 
 abbrev pub may_vary : Bool → IdlType → Bool
 may_vary is_sized (Array t count varying) = true
@@ -150,8 +161,7 @@ may_vary is_sized t = false
 abbrev pub is_wrongly_varying : Use → Bool
 is_wrongly_varying u =
     has_one_of lengths u.construct.attributes
-    && (not (may_vary (has_one_of sizes u.construct.attributes) u.type)
-    || has (codes "length_is") u.construct.attributes && has (codes "last_is") u.construct.attributes)
+    && (not (may_vary (has_one_of sizes u.construct.attributes) u.type) || has_two_lengths u.construct.attributes)
 
 -- Rule 36: an attribute's variable is a member of the same struct or a parameter of the same operation, and not itself.
 

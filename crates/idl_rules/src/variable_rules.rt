@@ -21,6 +21,7 @@ use crate::declaration_rules::is_wrongly_cased;
 use idl_constructs::nodes::Position;
 use idl_constructs::words::{Word, has as has_word, has_length, has_size};
 use idl_declared_types::kinds::Kind;
+use idl_grammar::Attribute;
 use idl_rule_definitions::{Finder, rule};
 use idl_value_rules::marks::Mark;
 
@@ -116,7 +117,7 @@ fn may_be_text(judge: &Judge<'_>, number: usize) -> bool
     }
 }
 
-/// Rule 33: whether it has `string` and is no such type, or has length_is, first_is or last_is.
+/// Rule 33: whether it has `string` and is no such type, or has length_is, first_is, last_is or any_length.
 fn is_wrong_text(judge: &Judge<'_>, asked: &Asked<'_>) -> bool
     ensures { (u : Use) → result ≡ rules.is_wrong_text (asked_use judge.now.kinds.now asked.now u) }
 {
@@ -125,14 +126,22 @@ fn is_wrong_text(judge: &Judge<'_>, asked: &Asked<'_>) -> bool
         && (!may_be_text(judge, asked.typed.declared_as) || has_length(attributes))
 }
 
-/// Rule 34: whether it has size_is or max_is and may not, or has both, or is a conformant array without.
+/// Whether a list has two attributes of a maximum count.
+fn has_two_sizes(attributes: &[Attribute]) -> bool
+    ensures { result ≡ rules.has_two_sizes (map seen_attribute attributes.now) }
+{
+    has_word(attributes, Word::SizeIs) && has_word(attributes, Word::MaxIs)
+        || has_word(attributes, Word::AnySize)
+            && (has_word(attributes, Word::SizeIs) || has_word(attributes, Word::MaxIs))
+}
+
+/// Rule 34: whether it has size_is, max_is or any_size and may not, or has two of them, or is a conformant array without.
 fn is_wrongly_sized(judge: &Judge<'_>, asked: &Asked<'_>) -> bool
     ensures { (u : Use) → result ≡ rules.is_wrongly_sized (asked_use judge.now.kinds.now asked.now u) }
 {
     let attributes = asked.construct.attributes;
     if has_size(attributes) {
-        !judge.kind(asked.typed.declared_as).may_be_sized()
-            || has_word(attributes, Word::SizeIs) && has_word(attributes, Word::MaxIs)
+        !judge.kind(asked.typed.declared_as).may_be_sized() || has_two_sizes(attributes)
     } else {
         matches!(
             asked.construct.position,
@@ -141,7 +150,7 @@ fn is_wrongly_sized(judge: &Judge<'_>, asked: &Asked<'_>) -> bool
     }
 }
 
-/// Whether length_is, first_is and last_is may stand on a type.
+/// Whether length_is, first_is, last_is and any_length may stand on a type.
 fn may_vary(judge: &Judge<'_>, is_sized: bool, number: usize) -> bool
     ensures { result ≡ rules.may_vary is_sized (type_at judge.now.kinds.now number) }
 {
@@ -152,14 +161,24 @@ fn may_vary(judge: &Judge<'_>, is_sized: bool, number: usize) -> bool
     }
 }
 
-/// Rule 35: whether it has length_is, first_is or last_is and may not, or has both length_is and last_is.
+/// Whether a list has both length_is and last_is, or any_length and one of the three others.
+fn has_two_lengths(attributes: &[Attribute]) -> bool
+    ensures { result ≡ rules.has_two_lengths (map seen_attribute attributes.now) }
+{
+    has_word(attributes, Word::LengthIs) && has_word(attributes, Word::LastIs)
+        || has_word(attributes, Word::AnyLength)
+            && (has_word(attributes, Word::FirstIs)
+                || has_word(attributes, Word::LengthIs)
+                || has_word(attributes, Word::LastIs))
+}
+
+/// Rule 35: whether it has length_is, first_is, last_is or any_length and may not, or has two of them that exclude each other.
 fn is_wrongly_varying(judge: &Judge<'_>, asked: &Asked<'_>) -> bool
     ensures { (u : Use) → result ≡ rules.is_wrongly_varying (asked_use judge.now.kinds.now asked.now u) }
 {
     let attributes = asked.construct.attributes;
     has_length(attributes)
-        && (!may_vary(judge, has_size(attributes), asked.typed.of)
-            || has_word(attributes, Word::LengthIs) && has_word(attributes, Word::LastIs))
+        && (!may_vary(judge, has_size(attributes), asked.typed.of) || has_two_lengths(attributes))
 }
 
 /// Rules 33 to 37 on a declarator.

@@ -42,7 +42,7 @@ impl<'a> Model for Parser<'a> {
 static NAMES_INSIDE: [u8; 2] = [symbol::NAME, symbol::BANNED_ATTRIBUTE];
 
 /// The symbols of names elsewhere.
-static NAMES_OUTSIDE: [u8; 24] = [
+static NAMES_OUTSIDE: [u8; 26] = [
     symbol::NAME,
     symbol::BANNED_ATTRIBUTE,
     symbol::UUID,
@@ -67,6 +67,8 @@ static NAMES_OUTSIDE: [u8; 24] = [
     symbol::IDEMPOTENT,
     symbol::BROADCAST,
     symbol::MAYBE,
+    symbol::ANY_SIZE,
+    symbol::ANY_LENGTH,
 ];
 
 /// Whether a symbol is one of a list.

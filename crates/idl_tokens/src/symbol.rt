@@ -112,6 +112,10 @@ pub const IDEMPOTENT: u8 = 59;
 pub const BROADCAST: u8 = 60;
 /// `maybe`
 pub const MAYBE: u8 = 61;
+/// `any_size`, in the windows language
+pub const ANY_SIZE: u8 = 62;
+/// `any_length`, in the windows language
+pub const ANY_LENGTH: u8 = 63;
 /// `[`
 pub const OPEN_SQUARE: u8 = 70;
 /// `]`

@@ -8,7 +8,7 @@ pub struct Entry {
     pub symbol: u8,
 }
 
-/// The words that are no mere names.
+/// The words of C706 that are no mere names.
 pub(crate) static WORDS: [Entry; 61] = [
     Entry {
         octets: b"boolean",
@@ -253,6 +253,18 @@ pub(crate) static WORDS: [Entry; 61] = [
     Entry {
         octets: b"decode",
         symbol: symbol::BANNED_ATTRIBUTE,
+    },
+];
+
+/// The words with which an attribute begins in the windows language, and which are names in C706.
+pub(crate) static WINDOWS_WORDS: [Entry; 2] = [
+    Entry {
+        octets: b"any_size",
+        symbol: symbol::ANY_SIZE,
+    },
+    Entry {
+        octets: b"any_length",
+        symbol: symbol::ANY_LENGTH,
     },
 ];
 

@@ -1,7 +1,7 @@
 // What is known after a file.
 ghost use Rattle.std.specs.Prelude.{◌≡◌, length, IfOk};
 
-use idl_grammar::Tree;
+use idl_grammar::{Language, Tree};
 use idl_lexer::lex;
 use idl_names::{Scope, Sources, resolve};
 use idl_parser::parse;
@@ -13,7 +13,7 @@ pub(crate) fn tree_of(alloc: Global, text: &[u8]) -> Result<Tree, Memory> {
     let Ok(tokens) = lex(alloc, text) else {
         return Err(Memory);
     };
-    match parse(alloc, &tokens) {
+    match parse(alloc, Language::C706, &tokens) {
         Ok(tree) => Ok(tree),
         Err(_) => Err(Memory),
     }
@@ -41,7 +41,7 @@ pub(crate) fn walked(
     requires { length sources.old ≡ 1 }
 {
     let tree = tree_of(alloc, text)?;
-    match resolve(alloc, files, sources, tree) {
+    match resolve(alloc, Language::C706, files, sources, tree) {
         Ok(scope) => Ok(scope),
         Err(_) => Err(Memory),
     }

@@ -1,4 +1,5 @@
 // What the parser answers, by a file that uses every alternative of the language.
+use idl_grammar::Language;
 use idl_lexer::lex;
 use idl_parser::parse;
 use std::test::Fail;
@@ -40,7 +41,7 @@ interface t {
   void op5(struct st a, enum en b);
 }",
     )?;
-    let file = parse(rt.alloc(), &tokens)?;
+    let file = parse(rt.alloc(), Language::C706, &tokens)?;
     assert_eq!(rt; file.exports.len(), 27);
     Ok(())
 }

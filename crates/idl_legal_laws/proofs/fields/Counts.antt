@@ -9,11 +9,11 @@ use Rattle.idl_grammar.specs.declared.attributes.PointerClass.{PointerClass}
 use Rattle.idl_grammar.specs.Tree.{Attribute}
 use Rattle.idl_rule_definitions.specs.Attributes.{has, has_one_of, class_in, sizes, lengths, string_word}
 use Rattle.idl_rule_definitions.specs.Nodes.{Position, InMember, InParameter, Declared}
-use Rattle.idl_rule_definitions.specs.Types.{IdlType, Array, Text, Pointer, Names, type_of, declared_type, with_attributes, class_or, text_of, sized, is_array, is_text, is_conformant_array}
+use Rattle.idl_rule_definitions.specs.Types.{IdlType, Array, Text, Pointer, Names, type_of, declared_type, with_attributes, class_or, text_of, sized, is_text, is_conformant_array}
 use Rattle.idl_rule_definitions.specs.Types.{is_conformant_text, is_varying_array}
 use Rattle.idl_rule_definitions.specs.Scene.{Scene}
 use Rattle.idl_rule_definitions.specs.Rules.{breaches_in}
-use Rattle.idl_rule_definitions.specs.VariableRules.{may_be_sized, may_vary, is_listed}
+use Rattle.idl_rule_definitions.specs.VariableRules.{may_be_sized, may_vary, has_two_sizes, has_two_lengths, is_listed}
 use Rattle.idl_rule_definitions.specs.Meaning.{field, types_of}
 use Rattle.idl_legal_laws.proofs.fields.FromNodes.{stands_in}
 use Rattle.idl_legal_laws.proofs.fields.Standing.{Stands, field_typed, referent, meant}
@@ -27,23 +27,26 @@ implied false b f = refl
 
 -- ## Attributes of fields
 
-end_of_two : (a b : Bool) → (a || b) ≡ (a || (b || false))
-end_of_two true b = refl
-end_of_two false true = refl
-end_of_two false false = refl
+one_of_two : (a b c : Bool) → (a || b) ≡ true → (a || (b || (c || false))) ≡ true
+one_of_two true b c h = refl
+one_of_two false true c h = refl
+one_of_two false false c h = absurd (let e : false ≡ true = h in cc)
 
-end_of_three : (a b c : Bool) → (a || (b || c)) ≡ (a || (b || (c || false)))
-end_of_three true b c = refl
-end_of_three false b c = end_of_two b c
+one_of_three : (a b c d : Bool) → (a || (b || c)) ≡ true → (a || (b || (c || (d || false)))) ≡ true
+one_of_three true b c d h = refl
+one_of_three false b c d h = one_of_two b c d h
 
-pub size_is : (s : Scene) (names : Names) (list : List Declared) (d : Declared) → has_size (field s names list d) ≡ has_one_of sizes d.construct.attributes
-size_is s names list d =
-    ap₂ (λ a b. a || b) (of_size s names list d) (of_max s names list d) ∙ end_of_two (has (codes "size_is") d.construct.attributes) (has (codes "max_is") d.construct.attributes)
+-- a field that has one of these has one of the attributes in the text
+pub size_is : (s : Scene) (names : Names) (list : List Declared) (d : Declared) → has_size (field s names list d) ≡ true → has_one_of sizes d.construct.attributes ≡ true
+size_is s names list d h =
+    one_of_two (has (codes "size_is") d.construct.attributes) (has (codes "max_is") d.construct.attributes) (has (codes "any_size") d.construct.attributes)
+    (sym (ap₂ (λ a b. a || b) (of_size s names list d) (of_max s names list d)) ∙ h)
 
-pub range_is : (s : Scene) (names : Names) (list : List Declared) (d : Declared) → has_range_attr (field s names list d) ≡ has_one_of lengths d.construct.attributes
-range_is s names list d =
-    ap₂ (λ a b. a || b) (of_first s names list d) (ap₂ (λ a b. a || b) (of_length s names list d) (of_last s names list d))
-    ∙ end_of_three (has (codes "first_is") d.construct.attributes) (has (codes "length_is") d.construct.attributes) (has (codes "last_is") d.construct.attributes)
+pub range_is : (s : Scene) (names : Names) (list : List Declared) (d : Declared) → has_range_attr (field s names list d) ≡ true → has_one_of lengths d.construct.attributes ≡ true
+range_is s names list d h =
+    one_of_three (has (codes "first_is") d.construct.attributes) (has (codes "length_is") d.construct.attributes) (has (codes "last_is") d.construct.attributes)
+    (has (codes "any_length") d.construct.attributes)
+    (sym (ap₂ (λ a b. a || b) (of_first s names list d) (ap₂ (λ a b. a || b) (of_length s names list d) (of_last s names list d))) ∙ h)
 
 -- ## What attributes make of a type
 
@@ -125,13 +128,6 @@ varies class string size (Pointer c to) h = pointee_varies string size to h
 varies class string size (Array t m v) h = array_varies string size t m v h
 varies class string size _ h = absurd (let e : false ≡ true = h in cc)
 
-array_or_sized : (size : Bool) (t : IdlType) → may_vary size t ≡ true → (is_array t || size) ≡ true
-array_or_sized true (Array t m v) h = refl
-array_or_sized true (Pointer c t) h = refl
-array_or_sized true _ h = absurd (let e : false ≡ true = h in cc)
-array_or_sized false (Array t m v) h = refl
-array_or_sized false _ h = absurd (let e : false ≡ true = h in cc)
-
 -- ## Rules as tests of truth values
 
 sizes_right : (a m x y : Bool) → a ≡ true → elim a [ true ↦ not m || x | false ↦ y ] ≡ false → m ≡ true
@@ -139,35 +135,24 @@ sizes_right true true x y e h = refl
 sizes_right true false x y e h = absurd (let f : true ≡ false = h in cc)
 sizes_right false m x y e h = absurd (let f : false ≡ true = e in cc)
 
-not_both : (a b m l c : Bool) → elim (a || (b || false)) [ true ↦ not m || (a && b) | false ↦ l && c ] ≡ false → not (a && b) ≡ true
-not_both false b m l c h = refl
-not_both true false m l c h = refl
-not_both true true true l c h = absurd (let f : true ≡ false = h in cc)
-not_both true true false l c h = absurd (let f : true ≡ false = h in cc)
-
-without_size : (a m l c : Bool) → l ≡ true → c ≡ true → elim a [ true ↦ m | false ↦ l && c ] ≡ false → a ≡ true
-without_size true m l c i j h = refl
-without_size false m true true i j h = absurd (let f : true ≡ false = h in cc)
-without_size false m true false i j h = absurd (let f : false ≡ true = j in cc)
-without_size false m false c i j h = absurd (let f : false ≡ true = i in cc)
+not_both : (a b z m y : Bool) → elim (a || (b || (z || false))) [ true ↦ not m || ((a && b) || (z && (a || b))) | false ↦ y ] ≡ false → not (a && b) ≡ true
+not_both false b z m y h = refl
+not_both true false z m y h = refl
+not_both true true z true y h = absurd (let f : true ≡ false = h in cc)
+not_both true true z false y h = absurd (let f : true ≡ false = h in cc)
 
 varying_right : (a m x : Bool) → a ≡ true → (a && (not m || x)) ≡ false → m ≡ true
 varying_right true true x e h = refl
 varying_right true false x e h = absurd (let f : true ≡ false = h in cc)
 varying_right false m x e h = absurd (let f : false ≡ true = e in cc)
 
-not_both_lengths : (f l k m : Bool) → ((f || (l || (k || false))) && (not m || (l && k))) ≡ false → not (l && k) ≡ true
-not_both_lengths f false k m h = refl
-not_both_lengths f true false m h = refl
-not_both_lengths true true true true h = absurd (let e : true ≡ false = h in cc)
-not_both_lengths true true true false h = absurd (let e : true ≡ false = h in cc)
-not_both_lengths false true true true h = absurd (let e : true ≡ false = h in cc)
-not_both_lengths false true true false h = absurd (let e : true ≡ false = h in cc)
-
-listed : (is_param : Bool) (position : Position) → stands_in is_param position ≡ true → is_listed position ≡ true
-listed true InParameter h = refl
-listed false InMember h = refl
-listed _ _ h = absurd (let e : false ≡ true = h in cc)
+not_both_lengths : (f l k z m : Bool) → ((f || (l || (k || (z || false)))) && (not m || ((l && k) || (z && (f || (l || k)))))) ≡ false → not (l && k) ≡ true
+not_both_lengths f false k z m h = refl
+not_both_lengths f true false z m h = refl
+not_both_lengths true true true z true h = absurd (let e : true ≡ false = h in cc)
+not_both_lengths true true true z false h = absurd (let e : true ≡ false = h in cc)
+not_both_lengths false true true z true h = absurd (let e : true ≡ false = h in cc)
+not_both_lengths false true true z false h = absurd (let e : true ≡ false = h in cc)
 
 -- ## Facts
 
@@ -186,8 +171,8 @@ sized_fact s b names is_param list whole index d st =
     let ty = field_typed s b names is_param list index d st in
     implied (has_size f) (kinds.is_conformant_array (subject_type (types_of s) f) || kinds.is_conformant_text (subject_type (types_of s) f))
     (λ h.
-    let sz : has_one_of sizes list_of ≡ true = sym (size_is s names list d) ∙ h in
-    let m = sizes_right (has_one_of sizes list_of) (may_be_sized t) (has (codes "size_is") list_of && has (codes "max_is") list_of)
+    let sz : has_one_of sizes list_of ≡ true = size_is s names list d h in
+    let m = sizes_right (has_one_of sizes list_of) (may_be_sized t) (has_two_sizes list_of)
     (is_listed d.construct.position && is_conformant_array (type_of s.known names d)) sz st.keeps.sizes in
     ap (λ o. kinds.is_conformant_array o || kinds.is_conformant_text o) ty.subject
     ∙ conforms_alike s (referent (type_of s.known names d))
@@ -199,28 +184,15 @@ pub one_size_fact : (s : Scene) → OfFields s (λ p. not (has_attr attr.Size p.
 one_size_fact s names is_param list whole index d st =
     let list_of = d.construct.attributes in
     ap₂ (λ a b. not (a && b)) (of_size s names list d) (of_max s names list d)
-    ∙ not_both (has (codes "size_is") list_of) (has (codes "max_is") list_of) (may_be_sized (declared_type s.known names d)) (is_listed d.construct.position)
-    (is_conformant_array (type_of s.known names d)) st.keeps.sizes
-
-pub conformant_sized_fact : (s : Scene) → breaches_in s ≡ [] → OfFields s (λ p. implies (kinds.is_conformant_array (type_at (types_of s) p.field.of.0)) (has_size p.field))
-conformant_sized_fact s b names is_param list whole index d st =
-    let list_of = d.construct.attributes in
-    let t = type_of s.known names d in
-    let f = field s names list d in
-    let ty = field_typed s b names is_param list index d st in
-    implied (kinds.is_conformant_array (type_at (types_of s) f.of.0)) (has_size f)
-    (λ h.
-    size_is s names list d
-    ∙ without_size (has_one_of sizes list_of) (not (may_be_sized (declared_type s.known names d)) || has (codes "size_is") list_of && has (codes "max_is") list_of)
-    (is_listed d.construct.position) (is_conformant_array t) (listed is_param d.construct.position st.position)
-    (sym (ap kinds.is_conformant_array ty.own ∙ alike.conformant_array s t) ∙ h) st.keeps.sizes)
+    ∙ not_both (has (codes "size_is") list_of) (has (codes "max_is") list_of) (has (codes "any_size") list_of) (may_be_sized (declared_type s.known names d))
+    (is_listed d.construct.position && is_conformant_array (type_of s.known names d)) st.keeps.sizes
 
 -- what a field may vary that has first_is, length_is or last_is
 may_vary_here : (s : Scene) (names : Names) (is_param : Bool) (list : List Declared) (index : ℕ) (d : Declared) → Stands s names is_param list index d
     → has_one_of lengths d.construct.attributes ≡ true → may_vary (has_one_of sizes d.construct.attributes) (type_of s.known names d) ≡ true
 may_vary_here s names is_param list index d st h =
     let list_of = d.construct.attributes in
-    varying_right (has_one_of lengths list_of) (may_vary (has_one_of sizes list_of) (type_of s.known names d)) (has (codes "length_is") list_of && has (codes "last_is") list_of) h
+    varying_right (has_one_of lengths list_of) (may_vary (has_one_of sizes list_of) (type_of s.known names d)) (has_two_lengths list_of) h
     st.keeps.varying
 
 pub varying_fact : (s : Scene) → breaches_in s ≡ [] → OfFields s (λ p. implies (has_range_attr p.field) (kinds.is_varying_array (subject_type (types_of s) p.field)))
@@ -232,26 +204,15 @@ varying_fact s b names is_param list whole index d st =
     let by : Bool → IdlType = λ z. with_by (class_in list_of) (has string_word list_of) (has_one_of sizes list_of) z t in
     implied (has_range_attr f) (kinds.is_varying_array (subject_type (types_of s) f))
     (λ h.
-    let ln : has_one_of lengths list_of ≡ true = sym (range_is s names list d) ∙ h in
+    let ln : has_one_of lengths list_of ≡ true = range_is s names list d h in
     let m = may_vary_here s names is_param list index d st ln in
     let e : type_of s.known names d ≡ by true = with_is list_of t ∙ ap by ln in
     ap kinds.is_varying_array ty.subject ∙ alike.varying_array s (referent (type_of s.known names d)) ∙ ap (λ u. is_varying_array (referent u)) e
     ∙ varies (class_in list_of) (has string_word list_of) (has_one_of sizes list_of) t (subst (λ u. may_vary (has_one_of sizes list_of) u ≡ true) e m))
 
-pub varying_sized_fact : (s : Scene) → breaches_in s ≡ [] → OfFields s (λ p. implies (has_range_attr p.field) (kinds.is_array (type_at (types_of s) p.field.of.0) || has_size p.field))
-varying_sized_fact s b names is_param list whole index d st =
-    let list_of = d.construct.attributes in
-    let t = type_of s.known names d in
-    let f = field s names list d in
-    let ty = field_typed s b names is_param list index d st in
-    implied (has_range_attr f) (kinds.is_array (type_at (types_of s) f.of.0) || has_size f)
-    (λ h.
-    let m = may_vary_here s names is_param list index d st (sym (range_is s names list d) ∙ h) in
-    ap₂ (λ x y. x || y) (ap kinds.is_array ty.own ∙ alike.array s t) (size_is s names list d) ∙ array_or_sized (has_one_of sizes list_of) t m)
-
 pub one_length_fact : (s : Scene) → OfFields s (λ p. not (has_attr attr.Length p.field && has_attr attr.Last p.field))
 one_length_fact s names is_param list whole index d st =
     let list_of = d.construct.attributes in
     ap₂ (λ a b. not (a && b)) (of_length s names list d) (of_last s names list d)
-    ∙ not_both_lengths (has (codes "first_is") list_of) (has (codes "length_is") list_of) (has (codes "last_is") list_of)
+    ∙ not_both_lengths (has (codes "first_is") list_of) (has (codes "length_is") list_of) (has (codes "last_is") list_of) (has (codes "any_length") list_of)
     (may_vary (has_one_of sizes list_of) (type_of s.known names d)) st.keeps.varying

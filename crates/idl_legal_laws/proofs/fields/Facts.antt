@@ -12,7 +12,7 @@ use Rattle.idl_rule_definitions.specs.Rules.{breaches, breaches_in}
 use Rattle.idl_rule_definitions.specs.Meaning.{types_of, operations_of}
 use Rattle.idl_legal_laws.specs.LegalFields.{HasLegalFields}
 use Rattle.idl_legal_laws.proofs.fields.Fields.{every_field, every_param, all_operations}
-use Rattle.idl_legal_laws.proofs.fields.Counts.{ordered_fact, sized_fact, one_size_fact, conformant_sized_fact, varying_fact, varying_sized_fact, one_length_fact}
+use Rattle.idl_legal_laws.proofs.fields.Counts.{ordered_fact, sized_fact, one_size_fact, varying_fact, one_length_fact}
 use Rattle.idl_legal_laws.proofs.fields.Variables.{variables_fact, count_variables_fact, switched_fact, switches_fact, switch_variables_fact}
 use Rattle.idl_legal_laws.proofs.fields.Parameters.{params_known_fact, handles_fact, out_pointers_fact, out_types_fact, results_fact, results_known_fact}
 use Rattle.idl_legal_laws.proofs.fields.Limits.{few_operations, few_params, few_parts}
@@ -35,9 +35,7 @@ legal_fields w h =
           every_field w h (λ p. implies (has_size p.field) (kinds.is_conformant_array (subject_type types p.field) || kinds.is_conformant_text (subject_type types p.field)))
           (sized_fact s b);
       one_size = every_field w h (λ p. not (has_attr attr.Size p.field && has_attr attr.Max p.field)) (one_size_fact s);
-      conformant_sized = every_field w h (λ p. implies (kinds.is_conformant_array (type_at types p.field.of.0)) (has_size p.field)) (conformant_sized_fact s b);
       varying = every_field w h (λ p. implies (has_range_attr p.field) (kinds.is_varying_array (subject_type types p.field))) (varying_fact s b);
-      varying_sized = every_field w h (λ p. implies (has_range_attr p.field) (kinds.is_array (type_at types p.field.of.0) || has_size p.field)) (varying_sized_fact s b);
       one_length = every_field w h (λ p. not (has_attr attr.Length p.field && has_attr attr.Last p.field)) (one_length_fact s);
       count_variables = every_field w h (all_variables (λ a. not (is_switch_attr a)) kinds.is_integer types) (count_variables_fact s b);
       switched = every_field w h (λ p. implies (legal.is_switched types p.field.of.0) (has_attr attr.Switch p.field)) (switched_fact s b);

@@ -5,9 +5,9 @@ use Rattle.idl_names.proofs.Loads.{fault_within, told_is}
 use Rattle.idl_names.proofs.loading.tree_of.Goals as goal
 
 pub syntax_fault-requires : goal.syntax_fault-requires
-syntax_fault-requires c = fault_within c.in_ok-tokens.tokens c.in-Err.fault c.in-Err.ensures.answer
+syntax_fault-requires c = fault_within c.args.language c.in_ok-tokens.tokens c.in-Err.fault c.in-Err.ensures.answer
 
 pub returns-clause-fault : goal.returns-clause-fault
 returns-clause-fault c =
-    subst (λ (f : NameFault). IsFaultOf c.args.file c.args.text.now f) (sym c.syntax_fault.ensures)
-    (told_is c.in_ok-tokens.tokens c.args.text.now c.args.file c.in-Err.fault c.in_ok-tokens.ensures.text c.in_ok-tokens.ensures.tokens c.in-Err.ensures.answer)
+    subst (λ (f : NameFault). IsFaultOf c.args.language c.args.file c.args.text.now f) (sym c.syntax_fault.ensures)
+    (told_is c.args.language c.in_ok-tokens.tokens c.args.text.now c.args.file c.in-Err.fault c.in_ok-tokens.ensures.text c.in_ok-tokens.ensures.tokens c.in-Err.ensures.answer)

@@ -22,7 +22,7 @@ pub import-returns-in_err-name : goal.import-returns-in_err-name
 import-returns-in_err-name g t c =
     let p : Point =
     point (g.F.Files.seen c.args.files.now)
-    (seen_state c.args.sources.now c.args.state.now) in
+    (seen_state c.args.language c.args.sources.now c.args.state.now) in
     let dues = load_of c.args.file c.args.string.now ∷ [] in
     passed_on p p dues [] c.from_residual.result fault.Memory c.from_residual.ensures.1 (going.stops_short p dues fault.Memory refl c.requires)
 
@@ -30,7 +30,7 @@ pub import-returns-in-Some : goal.import-returns-in-Some
 import-returns-in-Some g t c =
     let p : Point =
     point (g.F.Files.seen c.args.files.now)
-    (seen_state c.args.sources.now c.args.state.now) in
+    (seen_state c.args.language c.args.sources.now c.args.state.now) in
     let name = file_named c.args.string.now.octets in
     let is : c.as_str.result.now ≡ name = c.as_str.ensures.value ∙ (c.in_ok-name.ensures ∙ ap file_named c.as_slice.ensures) in
     going.again_went p (place_in c.args.file c.args.string.now) name c.requires c.in-Some.number tt
@@ -40,7 +40,7 @@ pub import-returns-in-Some-2 : goal.import-returns-in-Some-2
 import-returns-in-Some-2 g t c =
     let p : Point =
     point (g.F.Files.seen c.args.files.now)
-    (seen_state c.args.sources.now c.args.state.now) in
+    (seen_state c.args.language c.args.sources.now c.args.state.now) in
     let name = file_named c.args.string.now.octets in
     let is : c.as_str.result.now ≡ name = c.as_str.ensures.value ∙ (c.in_ok-name.ensures ∙ ap file_named c.as_slice.ensures) in
     going.cycle_went p (place_in c.args.file c.args.string.now) name c.requires c.in-Some.number
@@ -50,7 +50,7 @@ pub import-returns-in-None : goal.import-returns-in-None
 import-returns-in-None g t c =
     let p : Point =
     point (g.F.Files.seen c.args.files.now)
-    (seen_state c.args.sources.now c.args.state.now) in
+    (seen_state c.args.language c.args.sources.now c.args.state.now) in
     let name = file_named c.args.string.now.octets in
     let is : c.as_str.result.now ≡ name = c.as_str.ensures.value ∙ (c.in_ok-name.ensures ∙ ap file_named c.as_slice.ensures) in
     going.too_many_went p (place_in c.args.file c.args.string.now) name c.requires
@@ -60,20 +60,20 @@ pub import-returns : goal.import-returns
 import-returns g t c =
     let p : Point =
     point (g.F.Files.seen c.args.files.now)
-    (seen_state c.args.sources.now c.args.state.now) in
+    (seen_state c.args.language c.args.sources.now c.args.state.now) in
     let q : Point =
     point (g.F.Files.seen c.load.new.files)
-    (seen_state c.load.new.sources c.args.state.now) in
+    (seen_state c.args.language c.load.new.sources c.args.state.now) in
     let r : Point =
     point (g.F.Files.seen c.whole.new.files)
-    (seen_state c.whole.new.sources c.whole.new.state) in
+    (seen_state c.args.language c.whole.new.sources c.whole.new.state) in
     let name = file_named c.args.string.now.octets in
     let is : c.as_str.result.now ≡ name = c.as_str.ensures.value ∙ (c.in_ok-name.ensures ∙ ap file_named c.as_slice.ensures) in
     let same : c.as_str-in-None-2.result.now ≡ name = c.as_str-in-None-2.ensures.value ∙ (c.in_ok-name.ensures ∙ ap file_named c.as_slice.ensures) in
     going.enters_went p (place_in c.args.file c.args.string.now) name c.requires q r (seen_file c.in_ok-loaded-in-None-2.loaded) c.whole.result
     (ap (file_number c.args.sources.now) (sym is) ∙ sym c.in-None.ensures) (omega (arith, c.if-count-ge-WALK_LIMIT.false, c.count.ensures))
-    (subst (λ (n : List ℕ). IsLoaded p.held p.state.sources n q.state.sources (seen_file c.in_ok-loaded-in-None-2.loaded)) same c.in_ok-loaded-in-None-2.ensures.ok)
-    refl refl c.in_ok-loaded-in-None-2.ensures.same c.in_ok-loaded-in-None-2.ensures.asked c.in_ok-loaded-in-None-2.ensures.later c.in_ok-loaded-in-None-2.ensures.absences_later
+    (subst (λ (n : List ℕ). IsLoaded p.state.language p.held p.state.sources n q.state.sources (seen_file c.in_ok-loaded-in-None-2.loaded)) same c.in_ok-loaded-in-None-2.ensures.ok)
+    refl refl refl c.in_ok-loaded-in-None-2.ensures.same c.in_ok-loaded-in-None-2.ensures.asked c.in_ok-loaded-in-None-2.ensures.later c.in_ok-loaded-in-None-2.ensures.absences_later
     c.in_ok-loaded-in-None-2.ensures.more
     c.whole.ensures.went
 
@@ -83,13 +83,13 @@ pub import_all-returns-in_err-import : goal.import_all-returns-in_err-import
 import_all-returns-in_err-import g t c =
     let p : Point =
     point (g.F.Files.seen c.args.files.now)
-    (seen_state c.args.sources.now c.args.state.now) in
+    (seen_state c.args.language c.args.sources.now c.args.state.now) in
     let q : Point =
     point (g.F.Files.seen c.loop-string.files)
-    (seen_state c.loop-string.sources c.loop-string.state) in
+    (seen_state c.args.language c.loop-string.sources c.loop-string.state) in
     let r : Point =
     point (g.F.Files.seen c.import.new.files)
-    (seen_state c.import.new.sources c.import.new.state) in
+    (seen_state c.args.language c.import.new.sources c.import.new.state) in
     passed_on p r (loads c.args.file c.args.strings.now)
     (loads c.args.file (drop (c.loop-string.string-index + 1) c.args.strings.now)) c.from_residual.result c.in_err-import.field-0.0 c.from_residual.ensures.1
     (going.next_item (loads c.args.file) (λ x. load_of c.args.file x ∷ []) refl (one_load c.args.file) c.args.strings.now p q r
@@ -100,10 +100,10 @@ pub import_all-returns : goal.import_all-returns
 import_all-returns g t c =
     let p : Point =
     point (g.F.Files.seen c.args.files.now)
-    (seen_state c.args.sources.now c.args.state.now) in
+    (seen_state c.args.language c.args.sources.now c.args.state.now) in
     let q : Point =
     point (g.F.Files.seen c.loop-string.files)
-    (seen_state c.loop-string.sources c.loop-string.state) in
+    (seen_state c.args.language c.loop-string.sources c.loop-string.state) in
     going.any_value p q (loads c.args.file c.args.strings.now) [] 0 tt
     (going.no_item (loads c.args.file) (λ x. load_of c.args.file x ∷ []) refl (one_load c.args.file) c.args.strings.now p q (loads c.args.file c.args.strings.now) c.loop-string.string-index 0
     (omega arith) c.loop-string.invariant)
@@ -114,13 +114,13 @@ pub imports-returns-in_err-import_all : goal.imports-returns-in_err-import_all
 imports-returns-in_err-import_all g t c =
     let p : Point =
     point (g.F.Files.seen c.args.files.now)
-    (seen_state c.args.sources.now c.args.state.now) in
+    (seen_state c.args.language c.args.sources.now c.args.state.now) in
     let q : Point =
     point (g.F.Files.seen c.loop-one.files)
-    (seen_state c.loop-one.sources c.loop-one.state) in
+    (seen_state c.args.language c.loop-one.sources c.loop-one.state) in
     let r : Point =
     point (g.F.Files.seen c.import_all.new.files)
-    (seen_state c.import_all.new.sources c.import_all.new.state) in
+    (seen_state c.args.language c.import_all.new.sources c.import_all.new.state) in
     passed_on p r (loads_of c.args.file c.args.list.now)
     (loads_of c.args.file (drop (c.loop-one.one-index + 1) c.args.list.now)) c.from_residual.result c.in_err-import_all.field-0.0 c.from_residual.ensures.1
     (going.next_item (loads_of c.args.file) (λ m. loads c.args.file m.files.items) refl (one_import c.args.file) c.args.list.now p q r
@@ -132,10 +132,10 @@ pub imports-returns : goal.imports-returns
 imports-returns g t c =
     let p : Point =
     point (g.F.Files.seen c.args.files.now)
-    (seen_state c.args.sources.now c.args.state.now) in
+    (seen_state c.args.language c.args.sources.now c.args.state.now) in
     let q : Point =
     point (g.F.Files.seen c.loop-one.files)
-    (seen_state c.loop-one.sources c.loop-one.state) in
+    (seen_state c.args.language c.loop-one.sources c.loop-one.state) in
     going.any_value p q (loads_of c.args.file c.args.list.now) [] 0 tt
     (going.no_item (loads_of c.args.file) (λ m. loads c.args.file m.files.items) refl (one_import c.args.file) c.args.list.now p q (loads_of c.args.file c.args.list.now) c.loop-one.one-index 0
     (omega arith) c.loop-one.invariant)
@@ -146,7 +146,7 @@ pub whole-returns-in_err-attributes-clause-went : goal.whole-returns-in_err-attr
 whole-returns-in_err-attributes-clause-went g t c =
     let p : Point =
     point (g.F.Files.seen c.args.files.now)
-    (seen_state c.args.sources.now c.args.state.now) in
+    (seen_state c.args.language c.args.sources.now c.args.state.now) in
     let file = c.args.of.file in
     let t = seen_tree c.args.of.tree in
     passed_on p p (all_of file t) (going.behind_attributes file t) c.from_residual.result c.in_err-attributes.field-0.0 c.from_residual.ensures.1
@@ -156,10 +156,10 @@ pub whole-returns-in_err-imports-clause-went : goal.whole-returns-in_err-imports
 whole-returns-in_err-imports-clause-went g t c =
     let p : Point =
     point (g.F.Files.seen c.args.files.now)
-    (seen_state c.args.sources.now c.args.state.now) in
+    (seen_state c.args.language c.args.sources.now c.args.state.now) in
     let q : Point =
     point (g.F.Files.seen c.imports.new.files)
-    (seen_state c.imports.new.sources c.imports.new.state) in
+    (seen_state c.args.language c.imports.new.sources c.imports.new.state) in
     let file = c.args.of.file in
     let t = seen_tree c.args.of.tree in
     let strings : List Spelling = flat_map (λ m. m.files) (map seen_import c.as_slice.result.now) in
@@ -172,10 +172,10 @@ pub whole-returns-in_err-exports-clause-went : goal.whole-returns-in_err-exports
 whole-returns-in_err-exports-clause-went g t c =
     let p : Point =
     point (g.F.Files.seen c.args.files.now)
-    (seen_state c.args.sources.now c.args.state.now) in
+    (seen_state c.args.language c.args.sources.now c.args.state.now) in
     let q : Point =
     point (g.F.Files.seen c.imports.new.files)
-    (seen_state c.imports.new.sources c.imports.new.state) in
+    (seen_state c.args.language c.imports.new.sources c.imports.new.state) in
     let file = c.args.of.file in
     let t = seen_tree c.args.of.tree in
     let strings : List Spelling = flat_map (λ m. m.files) (map seen_import c.as_slice.result.now) in
@@ -190,10 +190,10 @@ pub whole-returns-in_err-push-clause-went : goal.whole-returns-in_err-push-claus
 whole-returns-in_err-push-clause-went g t c =
     let p : Point =
     point (g.F.Files.seen c.args.files.now)
-    (seen_state c.args.sources.now c.args.state.now) in
+    (seen_state c.args.language c.args.sources.now c.args.state.now) in
     let q : Point =
     point (g.F.Files.seen c.imports.new.files)
-    (seen_state c.imports.new.sources c.imports.new.state) in
+    (seen_state c.args.language c.imports.new.sources c.imports.new.state) in
     let file = c.args.of.file in
     let t = seen_tree c.args.of.tree in
     let strings : List Spelling = flat_map (λ m. m.files) (map seen_import c.as_slice.result.now) in
@@ -209,10 +209,10 @@ pub whole-returns-clause-went : goal.whole-returns-clause-went
 whole-returns-clause-went g t c =
     let p : Point =
     point (g.F.Files.seen c.args.files.now)
-    (seen_state c.args.sources.now c.args.state.now) in
+    (seen_state c.args.language c.args.sources.now c.args.state.now) in
     let q : Point =
     point (g.F.Files.seen c.imports.new.files)
-    (seen_state c.imports.new.sources c.imports.new.state) in
+    (seen_state c.args.language c.imports.new.sources c.imports.new.state) in
     let file = c.args.of.file in
     let t = seen_tree c.args.of.tree in
     let strings : List Spelling = flat_map (λ m. m.files) (map seen_import c.as_slice.result.now) in

@@ -18,14 +18,14 @@ decreases-whole g l = 4 * (64 - length l.sources.now) + 3
 
 abbrev pub invariant-import_all-loop-string : goal.invariant-import_all-loop-string
 invariant-import_all-loop-string g l = Went {A = ℕ}
-    (point (g.F.Files.seen l.fn.files) (seen_state l.fn.sources l.fn.state))
+    (point (g.F.Files.seen l.fn.files) (seen_state l.fn.language l.fn.sources l.fn.state))
     (loads l.file l.strings)
-    (point (g.F.Files.seen l.files) (seen_state l.sources l.state))
+    (point (g.F.Files.seen l.files) (seen_state l.language l.sources l.state))
     (loads l.file (drop l.string-index l.strings)) (Ok 0)
 
 abbrev pub invariant-imports-loop-one : goal.invariant-imports-loop-one
 invariant-imports-loop-one g l = Went {A = ℕ}
-    (point (g.F.Files.seen l.fn.files) (seen_state l.fn.sources l.fn.state))
+    (point (g.F.Files.seen l.fn.files) (seen_state l.fn.language l.fn.sources l.fn.state))
     (loads_of l.file l.list)
-    (point (g.F.Files.seen l.files) (seen_state l.sources l.state))
+    (point (g.F.Files.seen l.files) (seen_state l.language l.sources l.state))
     (loads_of l.file (drop l.one-index l.list)) (Ok 0)

@@ -5,4 +5,4 @@ use Rattle.idl_tokens.proofs.lexemes.lexemes.Given as goal
 
 -- so many tokens are taken over
 abbrev pub invariant-loop-token : goal.invariant-loop-token
-invariant-loop-token l = text_of l.list.items ≡ map (lexeme_of l.tokens.text) (take l.token l.tokens.tokens)
+invariant-loop-token l = text_of l.list.items ≡ map (lexeme_of l.language l.tokens.text) (take l.token l.tokens.tokens)
