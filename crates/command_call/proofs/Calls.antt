@@ -1,10 +1,10 @@
 -- The steps of printing a call, one after the other.
 use Rattle.std.proofs.Common.{◌≡◌, ◌∙◌, ℕ, ◌+◌, ◌≤◌, ◌<◌, true, List, [], ◌∷◌, ◌++◌, length, Option, Some, None, Result, Ok, Err, IfOk, IfErr, refl, ap, sym, subst, arith, get_or, inl, inr, ◌⊎◌}
-use Rattle.std.proofs.KnownBytes.{Consumes-trans}
+use Rattle.std.proofs.KnownBytes.{Consumes-trans, Consumes-kept}
 use Rattle.std.proofs.lemmas.List.{append-nil}
 use Rattle.std.proofs.lemmas.Option.{slice_get_cases}
 use Rattle.std.specs.List.{slice_get}
-use Rattle.std.specs.Io.KnownBytes.{Consumes, IsAtEnd}
+use Rattle.std.specs.Io.KnownBytes.{Consumes, IsAtEnd, Keeps}
 use Rattle.nd_base.proofs.Rising.{rose_later}
 use Rattle.nd_base.specs.declared.octets.Order.{Order}
 use Rattle.nd_base.specs.Over.{Rose, SourceOver, HasRisen}
@@ -33,7 +33,7 @@ over s t = record { left = s.left; left_now = t.left_now; ended_now = t.ended_no
 -- where fragments are not joined, nothing is printed
 pub unjoined : (s : SourceOver) (i : Interface) (op : Option ℕ) (r : Refusal) → IsUnjoined (called.wanted op) s r → IsCallCause s i op r
 unjoined s i op Memory h = tt
-unjoined s i op ReadFault h = h
+unjoined s i op ReadFault h = record { octets = h.octets; taken = h.taken; sound = inl h.short; failed = h.failed }
 unjoined s i op (BadPdu place (fragments.Refused why)) h = h
 unjoined s i op (BadPdu place fragments.Trailing) h = absurd h
 unjoined s i op (BadPdu place (fragments.NoOperation n)) h = absurd h
@@ -121,7 +121,12 @@ module _ (s t : SourceOver) (i : Interface) (op : Option ℕ) (j : Joined) (firs
   both octets taken = Consumes-trans s.left s.left_now t.left_now first.octets octets first.taken (subst (λ l. Consumes l t.left_now octets) meets taken)
 
   pub no_end : s.faults.before ≤ s.faults.now → t.faults.before ≡ s.faults.now → (r : Refusal) → IsNoEnd t j.taken r → IsCallCause (over s t) i op r
-  no_end later same ReadFault rose = rose_later s.faults.before s.faults.now t.faults.now later (subst (λ n. Rose n t.faults.now) same rose)
+  no_end later same ReadFault (kept, rose) = record {
+    octets = first.octets;
+    taken = Consumes-kept s.left s.left_now t.left_now first.octets first.taken (subst (λ l. Keeps l t.left_now) meets kept);
+    sound = inr (j.order, j.call, j.opnum, j.stub, first.fragments);
+    failed = rose_later s.faults.before s.faults.now t.faults.now later (subst (λ n. Rose n t.faults.now) same rose);
+  }
   no_end later same (BadPdu place fragments.Trailing) (there, (next, one)) = record {
     octets = first.octets;
     next = next;

@@ -1,8 +1,8 @@
 -- What the fragments of a source are printed as, and why they are refused.
 -- `s` is a source over the call, `i` an interface, `op` the number of the operation whose response is read: None for a request, which states its own.
-use Rattle.std.specs.Prelude.{◌≡◌, ℕ, true, List, [], ◌∷◌, ◌++◌, length, codes, decimal, Option, Some, None, ⊤}
+use Rattle.std.specs.Prelude.{◌≡◌, ◌⊎◌, ℕ, true, List, [], ◌∷◌, ◌++◌, length, codes, decimal, Option, Some, None, ⊤}
 use Rattle.std.specs.List.{slice_get}
-use Rattle.std.specs.Io.KnownBytes.{Consumes, IsAtEnd}
+use Rattle.std.specs.Io.KnownBytes.{Consumes, IsAtEnd, Keeps}
 use Rattle.nd_base.specs.declared.octets.Order.{Order}
 use Rattle.nd_base.specs.Over.{SourceOver, HasRisen}
 use Rattle.nd_base.specs.Text.{joined}
@@ -14,6 +14,7 @@ use Rattle.nd_value.specs.Setting.{Setting}
 use Rattle.nd_value.specs.Fitting.{setting_of}
 use Rattle.rpc_pdu.specs.declared.pdu.Wanted.{Wanted}
 use Rattle.rpc_pdu.specs.declared.pdu.Wanted.TheVariants.{Request, Response}
+use Rattle.rpc_pdu.specs.declared.pdu.PduReason.TheVariants.{Short}
 use Rattle.rpc_pdu.specs.Fragments.{Fragments}
 use Rattle.rpc_pdu.specs.Fragments as pdu
 use Rattle.command_decode.specs.Decoded.{IsDecoding, IsWhole, IsInputCause}
@@ -108,10 +109,21 @@ pub record HasBadStub (s : SourceOver) (i : Interface) (op : Option ℕ) (place 
   pub is_call : IsCall i op octets order call operation stub
   pub cause : IsStubCause stub (setting_of i operation (side op)) order (BadOctets place why)
 
+-- octets are the fragments of one call
+abbrev pub AreFragments : Wanted → List ℕ → Type 0
+AreFragments want octets = (order : Order) × (call : ℕ) × (stated : Option ℕ) × (stub : List ℕ) × Fragments octets want order call stated stub
+
+-- The source failed. The octets that were taken before are not refused: they only end too early, or are the fragments of one call.
+pub record IsUnread (s : SourceOver) (want : Wanted) : Type 0 where
+  pub octets : List ℕ
+  pub taken : Consumes s.left s.left_now octets
+  pub sound : pdu.BadPdu want octets (length octets) Short ⊎ AreFragments want octets
+  pub failed : HasRisen s.faults
+
 -- why the fragments of a source are not printed; running out of memory needs no cause
 abbrev pub IsCallCause : SourceOver → Interface → Option ℕ → Refusal → Type 0
 IsCallCause s i op Memory = ⊤
-IsCallCause s i op ReadFault = HasRisen s.faults
+IsCallCause s i op ReadFault = IsUnread s (wanted op)
 IsCallCause s i op (BadPdu place (fragments.Refused why)) = pdu.IsRefused (wanted op) s place why
 IsCallCause s i op (BadPdu place fragments.Trailing) = IsTrailed s (wanted op) place
 IsCallCause s i op (BadPdu place (fragments.NoOperation n)) = IsOfNoOperation s i (wanted op) place n
@@ -123,7 +135,7 @@ IsCallCause s i op _ = ⊥
 -- why fragments are not joined, as a refusal
 abbrev pub IsUnjoined : Wanted → SourceOver → Refusal → Type 0
 IsUnjoined want s Memory = ⊤
-IsUnjoined want s ReadFault = HasRisen s.faults
+IsUnjoined want s ReadFault = pdu.IsUnread want s
 IsUnjoined want s (BadPdu place (fragments.Refused why)) = pdu.IsRefused want s place why
 IsUnjoined want s _ = ⊥
 
@@ -133,9 +145,9 @@ pub record IsEnd (s : SourceOver) : Type 0 where
   pub ended : s.ended_now ≡ true
   pub none_left : IsAtEnd s.left_now
 
--- why the end was not met after so many octets: an octet was taken, or the source failed
+-- why the end was not met after so many octets: an octet was taken, or the source failed and gave nothing
 abbrev pub IsNoEnd : SourceOver → ℕ → Refusal → Type 0
-IsNoEnd s taken ReadFault = HasRisen s.faults
+IsNoEnd s taken ReadFault = Keeps s.left s.left_now × HasRisen s.faults
 IsNoEnd s taken (BadPdu place fragments.Trailing) = (place ≡ taken) × ((next : ℕ) × Consumes s.left s.left_now (next ∷ []))
 IsNoEnd s taken _ = ⊥
 

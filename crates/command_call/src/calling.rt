@@ -28,7 +28,7 @@ use std::alloc::Global;
 /// # Errors
 /// BadPdu, if the octets are not the fragments of one such call, if an octet follows the last one, or if the interface has no operation of the
 /// number that a request states, in this order. BadOctets, the first place in the stub data at which they are refused. ReadFault, if the source
-/// failed. Memory if memory ran out.
+/// failed, and the octets before it are not refused. Memory if memory ran out.
 ///
 /// Takes memory for the stub data, for the plan of the interface, the values and the text. The time is in proportion to these and the octets.
 pub fn print_call<S: Source>(

@@ -250,7 +250,7 @@ module _ (s : SourceOver) (octets : List ℕ) (given : AreGiven s octets) (i : I
   causes_here : (P : Refusal → Type 0) → P Memory → ((place : ℕ) (why : FragmentsFault) → IsRefusedCall i number octets place why → P (BadPdu place why))
       → ((place : ℕ) (why : OctetsFault) → HasStubFault place why → P (BadOctets place why)) → (r : Refusal) → IsCallCause s i number r → P r
   causes_here P wanting refused stub Memory h = wanting
-  causes_here P wanting refused stub ReadFault rose = absurd (given.reads rose)
+  causes_here P wanting refused stub ReadFault h = absurd (given.reads h.failed)
   causes_here P wanting refused stub (BadPdu place (fragments.Refused why)) h =
       refused place (fragments.Refused why) (known_bad (called.wanted number) s place why h octets given.left)
   causes_here P wanting refused stub (BadPdu place fragments.Trailing) h = refused place fragments.Trailing (trailed_here place h)

@@ -462,7 +462,7 @@ module _ (x : Seen) where
   call_read : (idl : List ℕ) (acf op : Option (List ℕ)) (r : Refusal) → IsNoCall x.files x.input idl acf op r → status_of r ≡ 3 → HasRisen x.input.faults
   call_read idl acf None ReadFault (inl (cause, before)) e = absurd cause
   call_read idl acf (Some name) ReadFault (inl (cause, before)) e = absurd cause
-  call_read idl acf op ReadFault (inr (i, number, ready, rose)) e = rose
+  call_read idl acf op ReadFault (inr (i, number, ready, h)) e = h.failed
   call_read idl acf op Memory cause e = cc
   call_read idl acf op (Absent file) cause e = cc
   call_read idl acf op (FileFailed file) cause e = cc

@@ -17,32 +17,80 @@ use Rattle.rpc_pdu.specs.declared.pdu.PduReason.TheVariants as why
 use Rattle.rpc_pdu.specs.declared.header.CommonFields.{CommonFields}
 use Rattle.rpc_pdu.specs.Checks.{short_at, is_last, has_object, order_of, call_id, fragment_length, header_length, operation_in, operation_of, part_length, part_of, opening_of, Before, before, Check}
 use Rattle.rpc_pdu.specs.Checks.{check, first_failing, common_checks, whole_by, whole_checks, refusal, opened}
-use Rattle.rpc_pdu.specs.Fragments.{HasEnded, IsEnd, IsTaken, IsTakeCause, IsSeen, IsBadBy, IsStated, rest_checks, IsWholeFragment, IsBadFragment, IsFragmentCause}
+use Rattle.rpc_pdu.specs.Fragments.{HasEnded, IsEnd, IsTaken, IsTakeCause, taken_to, IsSeen, IsBadBy, IsStated, rest_checks, IsWholeFragment, IsBadFragment, IsFragmentCause}
 use Rattle.rpc_pdu.proofs.Checking.{passes, fails, all_pass, one_fails, common_same, header_same, length_same, last_same, whole_same, opening_same, least_header, longer}
 use Rattle.std.proofs.lemmas.Bool.{le-ltb as not_below, lt-ltb as below}
 use Rattle.rpc_pdu.proofs.Staying.{end_checks, later_checks}
 
 -- ## Reasons
 
-abbrev reason_is_short : PduReason → Bool
-reason_is_short why.Short = true
-reason_is_short _ = false
+-- a test of reasons, which those of a list of checks pass
+module _ (test : PduReason → Bool) where
+  abbrev All : List Check → Type 0
+  All [] = Unit {0}
+  All (c ∷ cs) = (test c.why ≡ true) × All cs
 
-abbrev NoneShort : List Check → Type 0
-NoneShort [] = Unit {0}
-NoneShort (c ∷ cs) = (reason_is_short c.why ≡ false) × NoneShort cs
+  by_failing : (b : Bool) (p : ℕ) (v : PduReason) (cs : List Check) (r : ℕ × PduReason) → test v ≡ true → first_failing (check b p v ∷ cs) ≡ Some r
+      → (first_failing cs ≡ Some r → test r.1 ≡ true) → test r.1 ≡ true
+  by_failing true p v cs r e h next = let pair : ℕ × PduReason = (p, v) in let same : pair ≡ r = cc in ap (λ (x : ℕ × PduReason). test x.1) (sym same) ∙ e
+  by_failing false p v cs r e h next = next h
 
-by_reason : (b : Bool) (p : ℕ) (v : PduReason) (cs : List Check) (r : ℕ × PduReason) → reason_is_short v ≡ false → first_failing (check b p v ∷ cs) ≡ Some r
-    → (first_failing cs ≡ Some r → reason_is_short r.1 ≡ false) → reason_is_short r.1 ≡ false
-by_reason true p v cs r e h next = let pair : ℕ × PduReason = (p, v) in let same : pair ≡ r = cc in ap (λ (x : ℕ × PduReason). reason_is_short x.1) (sym same) ∙ e
-by_reason false p v cs r e h next = next h
+  failing : (cs : List Check) (r : ℕ × PduReason) → All cs → first_failing cs ≡ Some r → test r.1 ≡ true
+  failing [] r n h = cc
+  failing (c ∷ cs) r n h = by_failing c.fails c.place c.why cs r n.0 h (failing cs r n.1)
 
-reason_of : (cs : List Check) (r : ℕ × PduReason) → NoneShort cs → first_failing cs ≡ Some r → reason_is_short r.1 ≡ false
-reason_of [] r n h = cc
-reason_of (c ∷ cs) r n h = by_reason c.fails c.place c.why cs r n.0 h (reason_of cs r n.1)
+-- reasons that refuse octets whatever follows them, those that the header that all PDUs have shows, and those that the whole header shows
+abbrev is_lasting : PduReason → Bool
+is_lasting why.Short = false
+is_lasting _ = true
+
+abbrev by_common : PduReason → Bool
+by_common why.Short = false
+by_common why.OtherOperation = false
+by_common why.EmptyPiece = false
+by_common why.StubLong = false
+by_common _ = true
+
+abbrev by_header : PduReason → Bool
+by_header why.OtherOperation = true
+by_header why.EmptyPiece = true
+by_header why.StubLong = true
+by_header _ = false
+
+to_common : (want : Wanted) (w : PduReason) (os : List ℕ) → by_common w ≡ true → taken_to want w os ≡ 16
+to_common want why.Short os e = cc
+to_common want why.Version os e = refl
+to_common want why.Kind os e = refl
+to_common want why.Flags os e = refl
+to_common want why.Label os e = refl
+to_common want why.OtherOrder os e = refl
+to_common want why.Length os e = refl
+to_common want why.Auth os e = refl
+to_common want why.OtherCall os e = refl
+to_common want why.OtherOperation os e = cc
+to_common want why.EmptyPiece os e = cc
+to_common want why.StubLong os e = cc
+
+to_header : (want : Wanted) (w : PduReason) (os : List ℕ) → by_header w ≡ true → taken_to want w os ≡ header_length want os
+to_header want why.Short os e = cc
+to_header want why.Version os e = cc
+to_header want why.Kind os e = cc
+to_header want why.Flags os e = cc
+to_header want why.Label os e = cc
+to_header want why.OtherOrder os e = cc
+to_header want why.Length os e = cc
+to_header want why.Auth os e = cc
+to_header want why.OtherCall os e = cc
+to_header want why.OtherOperation os e = refl
+to_header want why.EmptyPiece os e = refl
+to_header want why.StubLong os e = refl
+
+-- of octets that are too short all are taken
+short_all : (want : Wanted) (w : PduReason) (os : List ℕ) → w ≡ why.Short → length os ≡ taken_to want w os
+short_all want w os e = ap (λ (v : PduReason). taken_to want v os) (sym e)
 
 -- the end of a source matters to octets that are too short alone
-no_end : (s : SourceOver) (w : PduReason) → reason_is_short w ≡ false → IsEnd s w
+no_end : (s : SourceOver) (w : PduReason) → is_lasting w ≡ true → IsEnd s w
 no_end s why.Short e = cc
 no_end s why.Version e = tt
 no_end s why.Kind e = tt
@@ -123,18 +171,19 @@ module _ {S : Type 0} (shown : S → SourceSeen) (want : Wanted) (b : Before) wh
   seen x y = source_over shown x y
 
   -- octets of which none is lacking were taken, and are refused
-  refused_by : (x y : S) (os : List ℕ) (cs : List Check) (p : ℕ) (w : PduReason) → Consumes (shown x).left (shown y).left os → NoneShort cs → first_failing cs ≡ Some (p, w)
-      → refusal want b os ≡ Some (p, w) → IsBadFragment want b (seen x y) p w
-  refused_by x y os cs p w c n e h = record { os = os; taken = c; refused = h; end = no_end (seen x y) w (reason_of cs (p, w) n e) }
+  refused_by : (x y : S) (os : List ℕ) (cs : List Check) (p : ℕ) (w : PduReason) → Consumes (shown x).left (shown y).left os → All is_lasting cs → first_failing cs ≡ Some (p, w)
+      → refusal want b os ≡ Some (p, w) → length os ≡ taken_to want w os → IsBadFragment want b (seen x y) p w
+  refused_by x y os cs p w c n e h ends = record { os = os; taken = c; refused = h; ends = ends; end = no_end (seen x y) w (failing is_lasting cs (p, w) n e) }
 
   -- the first 16 octets do not come
   pub no_head : (x y : S) (e : PduFault) → IsTakeCause (seen x y) b.at 16 e → IsFragmentCause want b (seen x y) e
   no_head x y fault.Memory h = tt
-  no_head x y fault.ReadFault h = h
+  no_head x y fault.ReadFault h = record { os = h.os; taken = h.taken; short = cut_16 want b h.os h.fewer; failed = h.failed }
   no_head x y (fault.Bad p w) h = record {
     os = h.os;
     taken = h.taken;
     refused = cut_16 want b h.os h.fewer ∙ ap (λ (q : ℕ). Some (q, why.Short)) (sym h.there) ∙ ap (λ (v : PduReason). Some (p, v)) (sym h.short);
+    ends = short_all want w h.os h.short;
     end = short_end (seen x y) w h.short h.end;
   }
 
@@ -146,6 +195,7 @@ module _ {S : Type 0} (shown : S → SourceSeen) (want : Wanted) (b : Before) wh
       let least : 16 ≤ length head = omega (arith, t.all) in
       refused_by x y head (common_checks want b head) p w t.taken (refl, (refl, (refl, (refl, (refl, (refl, (refl, (refl, tt)))))))) h
       (passes _ _ why.Short (common_checks want b head ++ later_checks want b head) (not_below (length head) 16 least) ∙ one_fails (common_checks want b head) (later_checks want b head) (p, w) h)
+      (t.all ∙ sym (to_common want w head (failing by_common (common_checks want b head) (p, w) (refl, (refl, (refl, (refl, (refl, (refl, (refl, (refl, tt)))))))) h)))
 
   both_taken : (x y z : S) (os more : List ℕ) → Consumes (shown x).left (shown y).left os → Consumes (shown y).left (shown z).left more → Consumes (shown x).left (shown z).left (os ++ more)
   both_taken x y z os more c d = Consumes-trans (shown x).left (shown y).left (shown z).left os more c d
@@ -154,7 +204,12 @@ module _ {S : Type 0} (shown : S → SourceSeen) (want : Wanted) (b : Before) wh
   pub no_rest : (x y z : S) (head : List ℕ) (c : CommonFields) (e : PduFault) → (shown x).faults ≤ (shown y).faults → IsTaken (seen x y) 16 head → IsSeen want b head c → 24 ≤ c.header_length
       → IsTakeCause (seen y z) (b.at + 16) (c.header_length - 16) e → IsFragmentCause want b (seen x z) e
   no_rest x y z head c fault.Memory low t s least h = tt
-  no_rest x y z head c fault.ReadFault low t s least h = rose_later (shown x).faults (shown y).faults (shown z).faults low h
+  no_rest x y z head c fault.ReadFault low t s least h = record {
+    os = head ++ h.os;
+    taken = both_taken x y z head h.os t.taken h.taken;
+    short = cut_header want b head h.os t.all s.passed (omega (arith, h.fewer, s.header, least));
+    failed = rose_later (shown x).faults (shown y).faults (shown z).faults low h.failed;
+  }
   no_rest x y z head c (fault.Bad p w) low t s least h =
       let all : length (head ++ h.os) ≡ length head + length h.os = length-append head h.os in
       let few : 16 + length h.os < header_length want head = omega (arith, h.fewer, s.header, least) in
@@ -162,6 +217,7 @@ module _ {S : Type 0} (shown : S → SourceSeen) (want : Wanted) (b : Before) wh
         os = head ++ h.os;
         taken = both_taken x y z head h.os t.taken h.taken;
         refused = cut_header want b head h.os t.all s.passed few ∙ ap (λ (q : ℕ). Some (q, why.Short)) there ∙ ap (λ (v : PduReason). Some (p, v)) (sym h.short);
+        ends = short_all want w (head ++ h.os) h.short;
         end = end_from shown x y z w (short_end (seen y z) w h.short h.end);
       }
 
@@ -228,6 +284,17 @@ module _ {S : Type 0} (shown : S → SourceSeen) (want : Wanted) (b : Before) wh
   abbrev whole_list : CommonFields → List ℕ → List Check
   whole_list c rest = rest_checks want b.opening b.at (length b.stub) c rest
 
+  -- the stub data are cut
+  cut_part : (head rest more : List ℕ) (c : CommonFields) → length head ≡ 16 → IsSeen want b head c → IsHeader c head rest
+      → c.header_length ≤ c.fragment_length → first_failing (whole_list c rest) ≡ None → length more < c.fragment_length - c.header_length
+      → refusal want b ((head ++ rest) ++ more) ≡ Some (b.at + length ((head ++ rest) ++ more), why.Short)
+  cut_part head rest more c e s i within k fewer =
+      let all : length ((head ++ rest) ++ more) ≡ length (head ++ rest) + length more = length-append (head ++ rest) more in
+      let wide : fragment_length ((head ++ rest) ++ more) ≡ c.fragment_length = length_same (head ++ rest) more i.long ∙ i.wide_is in
+      let lacking : length ((head ++ rest) ++ more) < fragment_length ((head ++ rest) ++ more) = omega (arith, all, wide, i.all, fewer, within) in
+      after_all head rest more c e s i ∙ all_pass (whole_list c rest) (end_checks b ((head ++ rest) ++ more)) k
+      ∙ fails _ _ why.Short [] (below (length ((head ++ rest) ++ more)) (fragment_length ((head ++ rest) ++ more)) lacking)
+
   -- the whole header is refused
   pub bad_whole : (x y z : S) (head rest : List ℕ) (c : CommonFields) (e : PduFault) → IsTaken (seen x y) 16 head → IsSeen want b head c → 24 ≤ c.header_length
       → IsTaken (seen y z) (c.header_length - 16) rest → IsBadBy (first_failing (whole_list c rest)) e → IsFragmentCause want b (seen x z) e
@@ -237,6 +304,7 @@ module _ {S : Type 0} (shown : S → SourceSeen) (want : Wanted) (b : Before) wh
       let i = whole_header head rest c t.all u.all least s in
       refused_by x z (head ++ rest) (whole_list c rest) p w (both_taken x y z head rest t.taken u.taken) (refl, (refl, (refl, tt))) h
       (ap (refusal want b) (sym (append-nil (head ++ rest))) ∙ after_all head rest [] c t.all s i ∙ one_fails (whole_list c rest) (end_checks b ((head ++ rest) ++ [])) (p, w) h)
+      (i.all ∙ sym i.header_is ∙ sym (to_header want w (head ++ rest) (failing by_header (whole_list c rest) (p, w) (refl, (refl, (refl, tt))) h)))
 
   -- the stub data do not come
   pub no_part : (x y z v : S) (head rest : List ℕ) (c : CommonFields) (e : PduFault) → (shown x).faults ≤ (shown y).faults → (shown y).faults ≤ (shown z).faults
@@ -244,18 +312,22 @@ module _ {S : Type 0} (shown : S → SourceSeen) (want : Wanted) (b : Before) wh
       → 24 ≤ c.header_length → c.header_length ≤ c.fragment_length → IsTaken (seen y z) (c.header_length - 16) rest → first_failing (whole_list c rest) ≡ None
       → IsTakeCause (seen z v) (b.at + c.header_length) (c.fragment_length - c.header_length) e → IsFragmentCause want b (seen x v) e
   no_part x y z v head rest c fault.Memory low low' t s least within u k h = tt
-  no_part x y z v head rest c fault.ReadFault low low' t s least within u k h = rose_later (shown x).faults (shown z).faults (shown v).faults (omega (arith, low, low')) h
+  no_part x y z v head rest c fault.ReadFault low low' t s least within u k h =
+      let i = whole_header head rest c t.all u.all least s in record {
+        os = (head ++ rest) ++ h.os;
+        taken = both_taken x z v (head ++ rest) h.os (both_taken x y z head rest t.taken u.taken) h.taken;
+        short = cut_part head rest h.os c t.all s i within k h.fewer;
+        failed = rose_later (shown x).faults (shown z).faults (shown v).faults (omega (arith, low, low')) h.failed;
+      }
   no_part x y z v head rest c (fault.Bad p w) low low' t s least within u k h =
       let i = whole_header head rest c t.all u.all least s in
       let all : length ((head ++ rest) ++ h.os) ≡ length (head ++ rest) + length h.os = length-append (head ++ rest) h.os in
-      let wide : fragment_length ((head ++ rest) ++ h.os) ≡ c.fragment_length = length_same (head ++ rest) h.os i.long ∙ i.wide_is in
-      let lacking : length ((head ++ rest) ++ h.os) < fragment_length ((head ++ rest) ++ h.os) = omega (arith, all, wide, i.all, h.fewer, within) in
       let there : b.at + length ((head ++ rest) ++ h.os) ≡ p = omega (arith, all, i.all, h.there) in record {
         os = (head ++ rest) ++ h.os;
         taken = both_taken x z v (head ++ rest) h.os (both_taken x y z head rest t.taken u.taken) h.taken;
-        refused = after_all head rest h.os c t.all s i ∙ all_pass (whole_list c rest) (end_checks b ((head ++ rest) ++ h.os)) k
-            ∙ fails _ _ why.Short [] (below (length ((head ++ rest) ++ h.os)) (fragment_length ((head ++ rest) ++ h.os)) lacking)
+        refused = cut_part head rest h.os c t.all s i within k h.fewer
             ∙ ap (λ (q : ℕ). Some (q, why.Short)) there ∙ ap (λ (r : PduReason). Some (p, r)) (sym h.short);
+        ends = short_all want w ((head ++ rest) ++ h.os) h.short;
         end = end_from shown x z v w (short_end (seen z v) w h.short h.end);
       }
 

@@ -14,6 +14,7 @@ use Rattle.rpc_pdu.specs.declared.pdu.Joined.{Joined}
 use Rattle.rpc_pdu.specs.declared.pdu.PduFault.{PduFault}
 use Rattle.rpc_pdu.specs.declared.pdu.PduFault.TheVariants as fault
 use Rattle.rpc_pdu.specs.declared.pdu.PduReason.{PduReason}
+use Rattle.rpc_pdu.specs.declared.pdu.PduReason.TheVariants as why
 use Rattle.rpc_pdu.specs.Checks.{is_last, has_object, fragment_length, header_length, header_by, part_length, part_of, opening_of, Before, before, checks, refusal, after, opened}
 use Rattle.rpc_pdu.specs.Fragments.{IsFragment, AreEarlier, one_more, Fragments, BadPdu, IsJoined, IsRefused, IsJoinCause, IsWholeFragment, IsFragmentCause}
 use Rattle.rpc_pdu.proofs.Checking.{each_passes, most_header, below_or}
@@ -90,10 +91,26 @@ module _ {S : Type 0} (shown : S → SourceSeen) (want : Wanted) where
 
   pub cause_of : (x y z : S) (b : Before) (e : PduFault) → (shown x).faults ≤ (shown y).faults → Earlier x y b → IsFragmentCause want b (seen y z) e → IsJoinCause want (seen x z) e
   cause_of x y z b fault.Memory low d h = tt
-  cause_of x y z b fault.ReadFault low d h = rose_later (shown x).faults (shown y).faults (shown z).faults low h
+  cause_of x y z b fault.ReadFault low d h =
+      let all : length (d.0 ++ h.os) ≡ length d.0 + length h.os = length-append d.0 h.os in
+      let c = comes want d.0 b d.1.0 in
+      let there : b.at + length h.os ≡ length (d.0 ++ h.os) = omega (arith, all, c.at) in record {
+        octets = d.0 ++ h.os;
+        taken = Consumes-trans (shown x).left (shown y).left (shown z).left d.0 h.os d.1.1 h.taken;
+        short = record {
+          earlier = d.0;
+          before = b;
+          are_earlier = d.1.0;
+          rest = h.os;
+          end_to_end = refl;
+          refused = h.short ∙ ap (λ (q : ℕ). Some (q, why.Short)) there;
+        };
+        failed = rose_later (shown x).faults (shown y).faults (shown z).faults low h.failed;
+      }
   cause_of x y z b (fault.Bad p w) low d h = record {
     octets = d.0 ++ h.os;
     taken = Consumes-trans (shown x).left (shown y).left (shown z).left d.0 h.os d.1.1 h.taken;
     bad = record { earlier = d.0; before = b; are_earlier = d.1.0; rest = h.os; end_to_end = refl; refused = h.refused };
+    ends = h.ends;
     end = end_from shown x y z w h.end;
   }

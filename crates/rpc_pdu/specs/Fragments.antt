@@ -101,17 +101,35 @@ abbrev pub IsEnd : SourceOver → PduReason → Type 0
 IsEnd s why.Short = HasEnded s
 IsEnd s _ = ⊤
 
--- Octets were taken that are refused, whatever follows them; or they are too short, and nothing follows.
+-- How many octets of the fragment that is refused are taken: those by which it is refused, which are the header that all PDUs have, or its whole
+-- header. If it is too short, all that there are.
+abbrev pub taken_to : Wanted → PduReason → List ℕ → ℕ
+taken_to want why.Short os = length os
+taken_to want why.OtherOperation os = header_length want os
+taken_to want why.EmptyPiece os = header_length want os
+taken_to want why.StubLong os = header_length want os
+taken_to want _ os = 16
+
+-- Octets were taken that are refused, whatever follows them; or they are too short, and nothing follows. They end with those by which the last
+-- fragment is refused.
 pub record IsRefused (want : Wanted) (s : SourceOver) (place : ℕ) (why : PduReason) : Type 0 where
   pub octets : List ℕ
   pub taken : Consumes s.left s.left_now octets
   pub bad : BadPdu want octets place why
+  pub ends : length bad.rest ≡ taken_to want why bad.rest
   pub end : IsEnd s why
+
+-- The source failed. The octets that were taken before are not refused: they only end too early.
+pub record IsUnread (want : Wanted) (s : SourceOver) : Type 0 where
+  pub octets : List ℕ
+  pub taken : Consumes s.left s.left_now octets
+  pub short : BadPdu want octets (length octets) why.Short
+  pub failed : HasRisen s.faults
 
 -- why fragments are not joined; running out of memory needs no cause
 abbrev pub IsJoinCause : Wanted → SourceOver → PduFault → Type 0
 IsJoinCause want s fault.Memory = ⊤
-IsJoinCause want s fault.ReadFault = HasRisen s.faults
+IsJoinCause want s fault.ReadFault = IsUnread want s
 IsJoinCause want s (fault.Bad place why) = IsRefused want s place why
 
 -- ### One fragment
@@ -130,9 +148,16 @@ pub record IsCut (s : SourceOver) (at count place : ℕ) (w : PduReason) : Type 
   pub short : w ≡ why.Short
   pub end : HasEnded s
 
+-- the source failed before as many octets came as were wanted
+pub record IsFailed (s : SourceOver) (count : ℕ) : Type 0 where
+  pub os : List ℕ
+  pub taken : Consumes s.left s.left_now os
+  pub fewer : length os < count
+  pub failed : HasRisen s.faults
+
 abbrev pub IsTakeCause : SourceOver → ℕ → ℕ → PduFault → Type 0
 IsTakeCause s at count fault.Memory = ⊤
-IsTakeCause s at count fault.ReadFault = HasRisen s.faults
+IsTakeCause s at count fault.ReadFault = IsFailed s count
 IsTakeCause s at count (fault.Bad place why) = IsCut s at count place why
 
 -- what the first 16 octets of a fragment state, of which no check fails
@@ -171,11 +196,19 @@ pub record IsBadFragment (want : Wanted) (b : Before) (s : SourceOver) (place : 
   pub os : List ℕ
   pub taken : Consumes s.left s.left_now os
   pub refused : refusal want b os ≡ Some (place, why)
+  pub ends : length os ≡ taken_to want why os
   pub end : IsEnd s why
+
+-- the source failed before a whole fragment came, and what came is not refused
+pub record IsCutFragment (want : Wanted) (b : Before) (s : SourceOver) : Type 0 where
+  pub os : List ℕ
+  pub taken : Consumes s.left s.left_now os
+  pub short : refusal want b os ≡ Some (b.at + length os, why.Short)
+  pub failed : HasRisen s.faults
 
 abbrev pub IsFragmentCause : Wanted → Before → SourceOver → PduFault → Type 0
 IsFragmentCause want b s fault.Memory = ⊤
-IsFragmentCause want b s fault.ReadFault = HasRisen s.faults
+IsFragmentCause want b s fault.ReadFault = IsCutFragment want b s
 IsFragmentCause want b s (fault.Bad place why) = IsBadFragment want b s place why
 
 -- ## The fragments that stub data are split into

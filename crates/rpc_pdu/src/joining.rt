@@ -20,12 +20,12 @@ struct Taken {
 }
 
 /// Fetches the fragments of a request or response and joins their stub data (C706 sections 12.6.4.9 and 12.6.4.10). It asks for no octet after the
-/// last fragment.
+/// last fragment, and none after the header that is refused.
 ///
 /// # Errors
 /// `Bad` if the octets are refused: the place, in octets from the first that was fetched, and the reason of the first check that fails, in the first
-/// fragment in which one does. `ReadFault` if the source failed. `Memory` if memory ran out: it takes memory for the stub data and for one
-/// fragment, a piece at a time, before each piece is fetched. What a header claims takes none.
+/// fragment in which one does. `ReadFault` if the source failed, and the octets before it are not refused. `Memory` if memory ran out: it takes
+/// memory for the stub data and for one fragment, a piece at a time, before each piece is fetched. What a header claims takes none.
 pub fn join<S: Source>(alloc: Global, want: Wanted, source: &mut S) -> Result<Joined, PduFault>
     ensures joined { IfOk result (IsJoined want (source_over S.Source.seen source.old source.new)) }
     ensures number { IfOk result (λ j. HasNumber want j.opnum) }
