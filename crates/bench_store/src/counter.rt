@@ -2,10 +2,12 @@
 ghost use Rattle.std.specs.Prelude.{◌≡◌, false};
 
 use ctx_store::{Resource, ResourceFailed};
+use nd_ghost::GhostOctets;
 
 #[derive(Drop)]
 pub(crate) struct Counter {
     lines: u64,
+    applied: GhostOctets,
     ended: bool,
 }
 
@@ -17,6 +19,7 @@ impl Counter {
     {
         Counter {
             lines: 0,
+            applied: GhostOctets::none(),
             ended: false,
         }
     }
@@ -27,8 +30,9 @@ impl Resource for Counter {
 
     ghost shows = { counter_seen };
 
-    fn apply(&mut self, _line: &[u8]) -> Result<(), ResourceFailed> {
+    fn apply(&mut self, line: &[u8]) -> Result<(), ResourceFailed> {
         self.lines = self.lines.saturating_add(1);
+        self.applied.add_line(line);
         Ok(())
     }
 

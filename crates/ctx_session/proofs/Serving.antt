@@ -2,19 +2,10 @@
 use Rattle.std.proofs.Common.{◌≡◌, ◌∙◌, ap, sym, refl, subst, ℕ, suc, zero, ◌+◌, ◌-◌, ◌^◌, ◌≤◌, min, Bool, true, false, true≢false, List, [], ◌∷◌, ◌++◌, Option, Some, None, option_map, arith}
 use Rattle.std.proofs.Common.{append_assoc, append-nil, remove}
 use Rattle.std.specs.List.{slice_get}
-use Rattle.std.specs.Io.KnownBytes.{append_known}
 use Rattle.std.proofs.lemmas.Option.{none-some, same_Some}
 use Rattle.std.proofs.lemmas.Grind.{common_steps}
 use Rattle.ctx_store.specs.Resource.{ResourceSeen, gone, with_line, HasFailed, HasEndedSo}
 use Rattle.ctx_session.specs.Accounts.{Opening, Life, HasServed, AreServed, none, one}
-
-append_none : (known : Option (List ℕ)) → append_known known [] ≡ known
-append_none None = refl
-append_none (Some xs) = ap Some (append-nil xs)
-
-append_twice : (known : Option (List ℕ)) (xs ys : List ℕ) → append_known (append_known known xs) ys ≡ append_known known (xs ++ ys)
-append_twice None xs ys = refl
-append_twice (Some zs) xs ys = ap Some (append_assoc zs xs ys)
 
 least : (a m : ℕ) → min (a + 0) m ≤ a
 least a m = grind (arith, common_steps)
@@ -28,7 +19,8 @@ no_life closed failures = record { accepted = []; failures = failures; closed = 
 quiet_end : (was now : ResourceSeen) (closed : Bool) → now ≡ gone was → HasServed (record { was = was; life = no_life closed 0 }) now
 quiet_end was now closed e = record {
   ended = ap (λ r. r.ended) e;
-  lines = ap (λ r. r.lines) e ∙ sym (append_none was.lines);
+  lines = ap (λ r. r.lines) e ∙ sym (append-nil was.lines);
+  is_shown = ap (λ r. r.is_shown) e;
   faults = subst (λ n. min (was.faults + 0) (2 ^ 64 - 1) ≤ n) (sym (ap (λ r. r.faults) e)) (least was.faults (2 ^ 64 - 1));
   later = (let f = ap (λ r. r.faults) e in omega (arith, f));
   unfailed = λ c n. ap (λ r. r.faults) e;
@@ -41,7 +33,8 @@ closed_served was now e = quiet_end was now true e
 pub failed_close_served : (was now : ResourceSeen) → HasEndedSo was now true → HasServed (record { was = was; life = no_life true 1 }) now
 failed_close_served was now e = record {
   ended = e.ended_is;
-  lines = e.lines ∙ sym (append_none was.lines);
+  lines = e.lines ∙ sym (append-nil was.lines);
+  is_shown = e.is_shown;
   faults = e.risen;
   later = e.later;
   unfailed = λ c n. cc;
@@ -52,7 +45,8 @@ pub run_down_served : (was now : ResourceSeen) (failed : Bool) → HasEndedSo wa
 run_down_served was now false e = quiet_end was now false e
 run_down_served was now true e = record {
   ended = e.ended_is;
-  lines = e.lines ∙ sym (append_none was.lines);
+  lines = e.lines ∙ sym (append-nil was.lines);
+  is_shown = e.is_shown;
   faults = (let l = e.later in let m = least was.faults (2 ^ 64 - 1) in omega (arith, l, m));
   later = e.later;
   unfailed = λ c n. absurd (true≢false (sym c));
@@ -63,7 +57,8 @@ pub accepted_served : (was now : ResourceSeen) (text : List ℕ) (life : Life) �
     → HasServed (record { was = was; life = record life { accepted = (text ++ 10 ∷ []) ++ life.accepted } }) now
 accepted_served was now text life s = record {
   ended = s.ended;
-  lines = s.lines ∙ append_twice was.lines (text ++ 10 ∷ []) life.accepted;
+  lines = s.lines ∙ append_assoc was.lines (text ++ 10 ∷ []) life.accepted;
+  is_shown = s.is_shown;
   faults = s.faults;
   later = s.later;
   unfailed = s.unfailed;
@@ -74,7 +69,8 @@ pub failed_served : (was is now : ResourceSeen) (life : Life) → HasFailed was 
     → HasServed (record { was = was; life = record life { failures = suc life.failures } }) now
 failed_served was is now life f s = record {
   ended = s.ended;
-  lines = s.lines ∙ ap (λ l. append_known l life.accepted) f.lines;
+  lines = s.lines ∙ ap (λ l. l ++ life.accepted) f.lines;
+  is_shown = s.is_shown ∙ f.is_shown;
   faults = least_step was.faults is.faults now.faults life.failures (2 ^ 64 - 1) f.risen s.faults;
   later = (let a = f.later in let b = s.later in omega (arith, a, b));
   unfailed = λ c n. cc;

@@ -2,7 +2,6 @@
 use Rattle.std.specs.Prelude.{◌≡◌, ℕ, ◌+◌, ◌-◌, ◌^◌, ◌≤◌, min, suc, Bool, true, false, ◌==◌, List, [], ◌∷◌, ◌++◌, map, Some, remove, if◌then◌else◌}
 use Rattle.std.specs.List.{slice_get}
 use Rattle.std.specs.Str.{bytes_eq}
-use Rattle.std.specs.Io.KnownBytes.{append_known}
 use Rattle.ctx_store.specs.Resource.{ResourceSeen}
 use Rattle.ctx_session.specs.declared.answer.Answer.{Answer}
 use Rattle.ctx_session.specs.declared.answer.Answer.TheVariants.{Done, Failed}
@@ -66,7 +65,9 @@ opened_of os = map (λ o. o.was) os
 pub record HasServed (o : Opening) (now : ResourceSeen) : Type 0 where
   pub ended : now.ended ≡ true
   -- the lines that it had, and then those that were accepted while it was live
-  pub lines : now.lines ≡ append_known o.was.lines o.life.accepted
+  pub lines : now.lines ≡ o.was.lines ++ o.life.accepted
+  -- they are shown if they were shown before
+  pub is_shown : now.is_shown ≡ o.was.is_shown
   -- its count of faults rose by at least as many as its lines say, or is at its greatest value
   pub faults : min (o.was.faults + o.life.failures) (2 ^ 64 - 1) ≤ now.faults
   pub later : o.was.faults ≤ now.faults

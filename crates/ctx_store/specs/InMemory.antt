@@ -1,5 +1,5 @@
 -- What a resource in memory has and shows.
-use Rattle.std.specs.Prelude.{ℕ, ◌+◌, ◌<◌, Bool, List, length, Some, nat_lt, ◌||◌}
+use Rattle.std.specs.Prelude.{ℕ, ◌+◌, ◌<◌, Bool, List, length, true, nat_lt, ◌||◌}
 use Rattle.nd_base.specs.declared.memory.MemSink.{MemSink}
 use Rattle.nd_base.specs.InMemory.{sink_calls, sink_faults}
 use Rattle.nd_base.specs.Calls.{fails_next}
@@ -25,6 +25,6 @@ was_ended r = r.ended
 abbrev pub apply_fails : MemResource → List ℕ → Bool
 apply_fails r line = fails_next (sink_calls r.calls) || nat_lt r.room (length r.lines.items + (length line + 1))
 
--- what it shows: all
+-- what is seen of it: it shows all
 abbrev pub mem_resource_seen : MemResource → ResourceSeen
-mem_resource_seen r = record { lines = Some r.lines.items; ended = r.ended; faults = sink_faults r.calls }
+mem_resource_seen r = record { lines = r.lines.items; is_shown = true; ended = r.ended; faults = sink_faults r.calls }

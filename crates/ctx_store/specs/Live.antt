@@ -4,7 +4,7 @@ use Rattle.std.specs.List.{AllByRecursion}
 use Rattle.std.specs.Str.{bytes_eq}
 use Rattle.ctx_store.specs.Resource.{ResourceSeen}
 
--- a live resource: its identifier, sixteen octets; its client; what it shows
+-- a live resource: its identifier, sixteen octets; its client; what is seen of it
 pub record Live : Type 0 where
   pub id : List ℕ
   pub client : ℕ

@@ -1,17 +1,20 @@
--- What a resource shows of itself, and what its calls do.
-use Rattle.std.specs.Prelude.{◌≡◌, ℕ, ◌≤◌, Bool, true, false, List, [], ◌∷◌, ◌++◌, Option, Result, MatchResult}
-use Rattle.std.specs.Io.KnownBytes.{append_known}
+-- What is seen of a resource, and what its calls do.
+use Rattle.std.specs.Prelude.{◌≡◌, ℕ, ◌≤◌, Bool, true, false, List, [], ◌∷◌, ◌++◌, Result, MatchResult}
 use Rattle.nd_base.specs.Over.{Rose}
 
--- a resource: the lines applied, each with a line feed, where it shows them; whether it was ended; how often it failed
+-- a resource
 pub record ResourceSeen : Type 0 where
-  pub lines : Option (List ℕ)
+  -- the lines applied to it, each with a line feed, also if it does not show them
+  pub lines : List ℕ
+  -- whether it shows them to the program
+  pub is_shown : Bool
   pub ended : Bool
+  -- how often it failed
   pub faults : ℕ
 
 -- a resource with a line more
 abbrev pub with_line : List ℕ → ResourceSeen → ResourceSeen
-with_line line r = record r { lines = append_known r.lines (line ++ 10 ∷ []) }
+with_line line r = record r { lines = r.lines ++ (line ++ 10 ∷ []) }
 
 -- a resource that was ended
 abbrev pub gone : ResourceSeen → ResourceSeen
@@ -20,6 +23,7 @@ gone r = record r { ended = true }
 -- A resource failed: its count of faults rose, and no line was added.
 pub record HasFailed (before now : ResourceSeen) (ended : Bool) : Type 0 where
   pub lines : now.lines ≡ before.lines
+  pub is_shown : now.is_shown ≡ before.is_shown
   pub ended_is : now.ended ≡ ended
   pub risen : Rose before.faults now.faults
   pub later : before.faults ≤ now.faults

@@ -1,19 +1,22 @@
-// A resource that is a file. What the operating system does is trusted: the file shows nothing.
-ghost use Rattle.std.specs.Prelude.{◌≡◌, false, None};
+// A resource that is a file. What the operating system does is trusted: nothing is said of what the file holds.
+ghost use Rattle.std.specs.Prelude.{◌≡◌, [], false};
 
 use crate::{Resource, ResourceFailed};
 use nd_base::{OutputSink, Sink};
+use nd_ghost::GhostOctets;
 use std::fs::OpenOptions;
 use std::rt;
 
 /// A resource that appends each line with a line feed to a file. The file is made, or opened at its end, when the first line is applied, and closed
-/// when the resource is ended. It shows nothing but whether it was ended. A line fails if the file cannot be opened or written; then a part of it may
-/// be in the file.
+/// when the resource is ended. It does not show its lines. A line fails if the file cannot be opened or written; then a part of it may be in the
+/// file.
 #[derive(Drop)]
 pub struct FileResource<R: rt::Files + Copy> {
     rt: R,
     name: String,
     file: Option<OutputSink<R::File>>,
+    // The lines that were applied.
+    lines: GhostOctets,
     faults: u64,
     ended: bool,
 }
@@ -21,6 +24,7 @@ pub struct FileResource<R: rt::Files + Copy> {
 impl<R: rt::Files + Copy> FileResource<R> {
     /// A resource that appends to the file of this name, a path from the current folder. Makes no file yet. Takes no memory.
     pub fn new(rt: R, name: String) -> Self
+        ensures lines { (⟦<FileResource<R> as Resource>⟧.shows result).lines ≡ [] }
         ensures ended { (⟦<FileResource<R> as Resource>⟧.shows result).ended ≡ false }
         ensures faults { (⟦<FileResource<R> as Resource>⟧.shows result).faults ≡ 0 }
     {
@@ -28,6 +32,7 @@ impl<R: rt::Files + Copy> FileResource<R> {
             rt,
             name,
             file: None,
+            lines: GhostOctets::none(),
             faults: 0,
             ended: false,
         }
@@ -35,6 +40,7 @@ impl<R: rt::Files + Copy> FileResource<R> {
 
     // Opens the file at its end, and makes it if it is not there, unless this was done already.
     fn open(&mut self) -> Result<(), ResourceFailed>
+        ensures lines { self.new.lines ≡ self.old.lines }
         ensures ended { self.new.ended ≡ self.old.ended }
         ensures faults { self.new.faults ≡ self.old.faults }
     {
@@ -52,6 +58,7 @@ impl<R: rt::Files + Copy> FileResource<R> {
 
     // Writes a line and a line feed.
     fn write(&mut self, line: &[u8]) -> Result<(), ResourceFailed>
+        ensures lines { self.new.lines ≡ self.old.lines }
         ensures ended { self.new.ended ≡ self.old.ended }
         ensures faults { self.new.faults ≡ self.old.faults }
     {
@@ -69,14 +76,15 @@ impl<R: rt::Files + Copy> FileResource<R> {
 impl<R: rt::Files + Copy> Resource for FileResource<R> {
     ghost use Rattle.ctx_store.specs.Resource.{ResourceSeen};
 
-    ghost shows = { λ r. record { lines = None; ended = r.ended; faults = r.faults } };
+    ghost shows = { λ r. record { lines = r.lines; is_shown = false; ended = r.ended; faults = r.faults } };
 
     fn apply(&mut self, line: &[u8]) -> Result<(), ResourceFailed> {
-        let result = self.write(line);
-        if result.is_err() {
+        if self.write(line).is_err() {
             self.faults = self.faults.saturating_add(1);
+            return Err(ResourceFailed);
         }
-        result
+        self.lines.add_line(line);
+        Ok(())
     }
 
     fn end(&mut self) -> Result<(), ResourceFailed> {

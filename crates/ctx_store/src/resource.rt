@@ -1,5 +1,5 @@
 // What a resource is.
-ghost use Rattle.std.specs.Prelude.{◌≡◌, false, IfSome, IfNone, Some, None};
+ghost use Rattle.std.specs.Prelude.{◌≡◌, false, IfSome, is_some};
 ghost use Rattle.ctx_store.specs.Resource.{ResourceSeen, HasApplied, HasEnded};
 
 use thiserror::Error;
@@ -11,7 +11,7 @@ pub struct ResourceFailed;
 
 /// What a context handle stands for (C706 section 2.3.2, 5.1.6). Lines are applied to it until it is ended, once.
 pub trait Resource: Drop {
-    /// The lines applied, where it shows them; whether it was ended; how often it failed.
+    /// The lines applied, which contracts see of each resource; whether it shows them; whether it was ended; how often it failed.
     ghost shows: { Self → ResourceSeen };
 
     /// Applies a line. `ResourceFailed` comes only where the count of faults rose; then the line was not added. The resource must not be ended
@@ -28,8 +28,8 @@ pub trait Resource: Drop {
 
     /// The lines applied, each with a line feed, or None if the resource does not show them. Takes no memory.
     fn lines(&self) -> Option<&[u8]>
-        ensures some { IfSome result (λ lines. (shows self.now).lines ≡ Some lines.now) }
-        ensures none { IfNone result ((shows self.now).lines ≡ None) };
+        ensures some { IfSome result (λ lines. (shows self.now).lines ≡ lines.now) }
+        ensures shown { is_some result ≡ (shows self.now).is_shown };
 
     /// Whether it was ended. Takes no memory.
     fn ended(&self) -> bool

@@ -4,7 +4,6 @@ use Rattle.std.proofs.Common.{◌≡◌, ◌∙◌, ap, sym, refl, subst, ℕ, z
 use Rattle.std.proofs.Common.{add-one, append_assoc}
 use Rattle.std.specs.List.{slice_get}
 use Rattle.std.specs.Result.{IsErrAnd}
-use Rattle.std.specs.Io.KnownBytes.{append_known}
 use Rattle.std.proofs.Math.Seq.{take-append_seam}
 use Rattle.std.proofs.lemmas.List.{append-nil, take-append-drop}
 use Rattle.std.proofs.lemmas.Option.{same_Some}
@@ -19,21 +18,13 @@ use Rattle.ndr_drain.specs.declared.fault.GiveFault.TheVariants as give
 
 -- ## One end
 
-known_nothing : (t : Option (List ℕ)) → append_known t [] ≡ t
-known_nothing None = refl
-known_nothing (Some xs) = ap (λ l. Some l) (append-nil xs)
-
 -- an end that is given nothing is as before
 pub with_nothing : (e : EndSeen) → with_octets [] e ≡ e
-with_nothing e = ap (λ t. let x : EndSeen = record { taken = t; finished = e.finished; faults = e.faults } in x) (known_nothing e.taken)
-
-known_twice : (t : Option (List ℕ)) (a b : List ℕ) → append_known (append_known t a) b ≡ append_known t (a ++ b)
-known_twice None a b = refl
-known_twice (Some xs) a b = ap (λ l. Some l) (append_assoc xs a b)
+with_nothing e = ap (λ (t : List ℕ). record e { taken = t }) (append-nil e.taken)
 
 -- what is given in two pieces is given at once
 pub with_twice : (a b : List ℕ) (e : EndSeen) → with_octets b (with_octets a e) ≡ with_octets (a ++ b) e
-with_twice a b e = ap (λ t. let x : EndSeen = record { taken = t; finished = e.finished; faults = e.faults } in x) (known_twice e.taken a b)
+with_twice a b e = ap (λ (t : List ℕ). record e { taken = t }) (append_assoc e.taken a b)
 
 -- ## Lists of ends
 
@@ -99,7 +90,8 @@ failed_over : (x was is : EndSeen) (done piece octets : List ℕ) (n : ℕ) → 
     → take n octets ≡ done ++ take f.cut piece → HasFailed x is octets
 failed_over x was is done piece octets n e f h = record {
   cut = n;
-  taken = f.taken ∙ ap (λ y. append_known y.taken (take f.cut piece)) (sym e) ∙ known_twice x.taken done (take f.cut piece) ∙ ap (append_known x.taken) (sym h);
+  taken = f.taken ∙ ap (λ y. y.taken ++ take f.cut piece) (sym e) ∙ append_assoc x.taken done (take f.cut piece) ∙ ap (λ l. x.taken ++ l) (sym h);
+  is_shown = f.is_shown ∙ ap (λ y. y.is_shown) (sym e);
   finished = f.finished;
   risen = let P : EndSeen → Type 0 = λ y. Rose y.faults is.faults in subst P (sym e) f.risen;
   later = let P : EndSeen → Type 0 = λ y. y.faults ≤ is.faults in subst P (sym e) f.later;

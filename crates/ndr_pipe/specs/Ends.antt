@@ -1,21 +1,24 @@
--- What the ends of pipes show, and what their calls do.
-use Rattle.std.specs.Prelude.{◌≡◌, ℕ, ◌≤◌, zero, suc, Bool, true, false, List, [], ◌∷◌, take, map, Option, Some, Result, MatchResult, slice_set}
-use Rattle.std.specs.Io.KnownBytes.{append_known}
+-- What the ends of pipes took, and what their calls do.
+use Rattle.std.specs.Prelude.{◌≡◌, ℕ, ◌≤◌, zero, suc, Bool, true, false, List, [], ◌∷◌, ◌++◌, take, map, Some, Result, MatchResult, slice_set}
 use Rattle.std.specs.List.{slice_get}
 use Rattle.nd_base.specs.Over.{Rose}
 use Rattle.ndr_pipe.specs.declared.ends.Ends.{Ends}
 
 -- ## One end
 
--- an end: the octets that it took, where it shows them; whether it is finished; how often it failed
+-- an end
 pub record EndSeen : Type 0 where
-  pub taken : Option (List ℕ)
+  -- the octets of the lines that were given to it and that it took, also if it does not show them
+  pub taken : List ℕ
+  -- whether it shows them to the program
+  pub is_shown : Bool
   pub finished : Bool
+  -- how often it failed
   pub faults : ℕ
 
 -- an end that took these octets besides
 abbrev pub with_octets : List ℕ → EndSeen → EndSeen
-with_octets octets e = record e { taken = append_known e.taken octets }
+with_octets octets e = record e { taken = e.taken ++ octets }
 
 -- an end that is finished
 abbrev pub ended : EndSeen → EndSeen
@@ -24,7 +27,8 @@ ended e = record e { finished = true }
 -- An end failed: its count of faults rose, it took a prefix of what it was given, and it is finished.
 pub record HasFailed (before now : EndSeen) (octets : List ℕ) : Type 0 where
   pub cut : ℕ
-  pub taken : now.taken ≡ append_known before.taken (take cut octets)
+  pub taken : now.taken ≡ before.taken ++ take cut octets
+  pub is_shown : now.is_shown ≡ before.is_shown
   pub finished : now.finished ≡ true
   pub risen : Rose before.faults now.faults
   pub later : before.faults ≤ now.faults
@@ -33,7 +37,7 @@ pub record HasFailed (before now : EndSeen) (octets : List ℕ) : Type 0 where
 abbrev pub HasTaken : {E : Type 0} → EndSeen → EndSeen → List ℕ → Result Unit E → Type 0
 HasTaken before now line result = MatchResult result (λ _. now ≡ with_octets line before) (λ _. HasFailed before now line)
 
--- an end wrote what it held back and shows what it did before, or it failed
+-- an end wrote what it held back and is as before, or it failed
 abbrev pub HasFlushed : {E : Type 0} → EndSeen → EndSeen → Result Unit E → Type 0
 HasFlushed before now result = MatchResult result (λ _. now ≡ before) (λ _. HasFailed before now [])
 
@@ -41,9 +45,9 @@ HasFlushed before now result = MatchResult result (λ _. now ≡ before) (λ _. 
 abbrev pub HasFinished : {E : Type 0} → EndSeen → EndSeen → Result Unit E → Type 0
 HasFinished before now result = MatchResult result (λ _. now ≡ ended before) (λ _. HasFailed before now [])
 
--- ## What the ends of a list show
+-- ## The ends of a list
 
--- what each end of a list shows, given what one shows
+-- each end of a list, given what one is seen as
 abbrev pub ends_seen : {E : Type 0} → (E → EndSeen) → Ends E → List EndSeen
 ends_seen seen ends = map seen ends.items.items
 

@@ -1,5 +1,5 @@
 -- What an end in memory has and shows.
-use Rattle.std.specs.Prelude.{Bool, Some}
+use Rattle.std.specs.Prelude.{Bool, true}
 use Rattle.nd_base.specs.declared.memory.MemSink.{MemSink}
 use Rattle.nd_base.specs.InMemory.{written_octets, sink_faults}
 use Rattle.ndr_pipe.specs.declared.mem_end.MemEnd.{MemEnd}
@@ -13,6 +13,6 @@ end_sink e = e.sink
 abbrev pub is_finished : MemEnd → Bool
 is_finished e = e.finished
 
--- what it shows: all
+-- what is seen of it: it shows all
 abbrev pub mem_end_seen : MemEnd → EndSeen
-mem_end_seen e = record { taken = Some (written_octets e.sink); finished = e.finished; faults = sink_faults e.sink }
+mem_end_seen e = record { taken = written_octets e.sink; is_shown = true; finished = e.finished; faults = sink_faults e.sink }

@@ -1,5 +1,5 @@
 // What the end of a pipe is: where the lines of a pipe go.
-ghost use Rattle.std.specs.Prelude.{◌≡◌, false, IfSome, IfNone, Some, None};
+ghost use Rattle.std.specs.Prelude.{◌≡◌, false, IfSome, is_some};
 ghost use Rattle.ndr_pipe.specs.Ends.{EndSeen, HasTaken, HasFlushed, HasFinished};
 
 use thiserror::Error;
@@ -12,7 +12,7 @@ pub struct EndFailed;
 /// The end of a pipe, which takes lines until it is finished. It is finished once `finish` was called, or once one of its calls failed. A finished
 /// end takes nothing more.
 pub trait PipeEnd: Drop {
-    /// The octets that it took, where it shows them; whether it is finished; how often it failed.
+    /// The octets that it took, which contracts see of each end; whether it shows them; whether it is finished; how often it failed.
     ghost seen: { Self → EndSeen };
 
     /// Appends the whole line. `EndFailed` comes only where the count of faults rose; then a prefix of the line was taken, and the end is
@@ -38,8 +38,8 @@ pub trait PipeEnd: Drop {
 
     /// The octets that were taken, or None if the end does not show them. Takes no memory.
     fn shown(&self) -> Option<&[u8]>
-        ensures some { IfSome result (λ octets. (seen self.now).taken ≡ Some octets.now) }
-        ensures none { IfNone result ((seen self.now).taken ≡ None) };
+        ensures some { IfSome result (λ octets. (seen self.now).taken ≡ octets.now) }
+        ensures shown { is_some result ≡ (seen self.now).is_shown };
 
     /// Whether the end is finished. Takes no memory.
     fn finished(&self) -> bool

@@ -1,9 +1,10 @@
-// An end that is a file. What the operating system does is trusted: the file shows nothing.
-ghost use Rattle.std.specs.Prelude.{◌≡◌, ◌≤◌, false, true, None, IfOk};
+// An end that is a file. What the operating system does is trusted: nothing is said of what the file holds.
+ghost use Rattle.std.specs.Prelude.{◌≡◌, ◌≤◌, [], false, true, IfOk};
 ghost use Rattle.nd_base.specs.Over.{Rose};
 
 use crate::{EndFailed, PipeEnd};
 use nd_base::Memory;
+use nd_ghost::GhostOctets;
 use std::alloc::Global;
 use std::io::{BufWriter, Write};
 use std::{fs, io, rt};
@@ -49,11 +50,13 @@ impl<R: rt::Files + Copy> Write for LateFile<R> {
 
 /// An end that writes to a file. It holds up to 64 KiB of lines back, and writes them when there is no more room for the next line, when it is
 /// flushed or finished, and when it is dropped; it cannot report that this last write failed. The file is made, or emptied, when something is first
-/// written, flushed or finished, so no file is made for an end that is never called. It shows nothing but whether it is finished. A call fails if the
-/// file cannot be made or written.
+/// written, flushed or finished, so no file is made for an end that is never called. It does not show what it took. A call fails if the file cannot
+/// be made or written.
 #[derive(Drop)]
 pub struct FileEnd<R: rt::Files + Copy> {
     writer: BufWriter<LateFile<R>>,
+    // The lines that were given to the writer.
+    taken: GhostOctets,
     faults: u64,
     finished: bool,
 }
@@ -62,6 +65,7 @@ impl<R: rt::Files + Copy> FileEnd<R> {
     /// An end that writes to the file of this name, a path from the current folder. Makes no file yet. Takes memory for the lines that are held back;
     /// running out of memory is the only refusal.
     pub fn new(alloc: Global, rt: R, name: String) -> Result<Self, Memory>
+        ensures taken { IfOk result (λ e. (⟦<FileEnd<R> as PipeEnd>⟧.seen e).taken ≡ []) }
         ensures finished { IfOk result (λ e. (⟦<FileEnd<R> as PipeEnd>⟧.seen e).finished ≡ false) }
         ensures faults { IfOk result (λ e. (⟦<FileEnd<R> as PipeEnd>⟧.seen e).faults ≡ 0) }
     {
@@ -73,6 +77,7 @@ impl<R: rt::Files + Copy> FileEnd<R> {
         match BufWriter::with_capacity(alloc, HELD, file) {
             Ok(writer) => Ok(FileEnd {
                 writer,
+                taken: GhostOctets::none(),
                 faults: 0,
                 finished: false,
             }),
@@ -82,6 +87,7 @@ impl<R: rt::Files + Copy> FileEnd<R> {
 
     // A call failed: this is counted, and the end is finished.
     fn fail(&mut self) -> EndFailed
+        ensures taken { self.new.taken ≡ self.old.taken }
         ensures finished { self.new.finished ≡ true }
         ensures risen { Rose self.old.faults self.new.faults }
         ensures later { self.old.faults ≤ self.new.faults }
@@ -95,11 +101,14 @@ impl<R: rt::Files + Copy> FileEnd<R> {
 impl<R: rt::Files + Copy> PipeEnd for FileEnd<R> {
     ghost use Rattle.ndr_pipe.specs.Ends.{EndSeen};
 
-    ghost seen = { λ e. record { taken = None; finished = e.finished; faults = e.faults } };
+    ghost seen = { λ e. record { taken = e.taken; is_shown = false; finished = e.finished; faults = e.faults } };
 
     fn take(&mut self, line: &[u8]) -> Result<(), EndFailed> {
         match self.writer.write_all(line) {
-            Ok(()) => Ok(()),
+            Ok(()) => {
+                self.taken.add(line);
+                Ok(())
+            }
             Err(_) => Err(self.fail()),
         }
     }

@@ -1,5 +1,5 @@
 //! The ends of pipes: where the elements of a pipe go, line by line, when a stream is drained. An end is an object of the caller. It is known by the
-//! octets that it took, where it shows them, by whether it is finished, and by a count of its faults.
+//! octets that it took, which contracts see whether or not it shows them, by whether it is finished, and by a count of its faults.
 #![tactic(auto)]
 
 mod boxed;

@@ -1,5 +1,5 @@
 // An end in memory.
-ghost use Rattle.std.specs.Prelude.{◌≡◌, [], ◌++◌, false, true, Some, IfOk, is_err, if◌then◌else◌};
+ghost use Rattle.std.specs.Prelude.{◌≡◌, [], ◌++◌, false, true, IfOk, is_err, if◌then◌else◌};
 ghost use Rattle.nd_base.specs.Calls.{failing_calls, calls_done, CallMade};
 ghost use Rattle.nd_base.specs.Over.{next_count};
 ghost use Rattle.ndr_pipe.specs.Ends.{HasTaken, HasFinished};
