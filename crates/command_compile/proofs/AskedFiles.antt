@@ -5,6 +5,7 @@ use Rattle.std.specs.Prelude.{option_to_list, leb}
 use Rattle.std.specs.List.{slice_get}
 use Rattle.std.proofs.lemmas.Bool.{leb-true, leb-false}
 use Rattle.std.proofs.lemmas.Option.{same_Some}
+use Rattle.idl_grammar.specs.Files.{Idl}
 use Rattle.nd_base.specs.declared.octets.Place.{Place}
 use Rattle.nd_base.specs.Over.{IsContent}
 use Rattle.idl_grammar.specs.Tree.{Tree}
@@ -102,7 +103,7 @@ module _ (held : Option (List ℕ → Option (List ℕ))) where
       }
 
   -- a file that is entered is the next, or one after it
-  entered : (s : State) (place : Place) (name : List ℕ) (rest : List Due) (text : List ℕ) (tree : Tree) → IsDue s.sources name → IsContent held name text → IsFile text tree
+  entered : (s : State) (place : Place) (name : List ℕ) (rest : List Due) (text : List ℕ) (tree : Tree) → IsDue s.sources name → IsContent held name text → IsFile s.language text tree
       → (reached : List Source) → Walk held (with_source s name text) (all_of (length s.sources) tree ++ rest) (Stopped reached names.Memory) → (n : ℕ) (y : Source)
       → length s.sources ≤ n → slice_get reached n ≡ Some y
       → (length (and_source s.sources name text) ≤ n → IsBegun (with_source s name text) (all_of (length s.sources) tree ++ rest) reached n y.name)
@@ -142,24 +143,24 @@ module _ (held : Option (List ℕ → Option (List ℕ))) where
 -- ## The names asked for
 
 -- the main file alone
-pub main_asked : (held : Option (List ℕ → Option (List ℕ))) (idl : List ℕ) (acf : Option (List ℕ)) → AreAsked held idl acf (idl ∷ [])
+pub main_asked : (held : Option (List ℕ → Option (List ℕ))) (idl : Idl) (acf : Option (List ℕ)) → AreAsked held idl acf (idl.name ∷ [])
 main_asked held idl acf = record { main = refl; due = due }
   where
-    due : (n : ℕ) (name : List ℕ) → slice_get (idl ∷ []) n ≡ Some name → IsNext held idl acf (take n (idl ∷ [])) name
+    due : (n : ℕ) (name : List ℕ) → slice_get (idl.name ∷ []) n ≡ Some name → IsNext held idl acf (take n (idl.name ∷ [])) name
     due zero name e = inl (refl, sym (same_Some _ _ e))
     due (suc n) name e = cc
 
-module _ (held : Option (List ℕ → Option (List ℕ))) (idl text : List ℕ) (content : IsContent held idl text) where
+module _ (held : Option (List ℕ → Option (List ℕ))) (idl : Idl) (text : List ℕ) (content : IsContent held idl.name text) where
   -- the imports to which a walk comes, after the main file
-  module _ (tree : Tree) (parsed : IsFile text tree) (reached : List Source) (walk : Walk held (start (main_file idl text)) (all_of 0 tree) (Stopped reached names.Memory)) where
-    pub reached_names : names_of reached ≡ idl ∷ names_of (drop 1 reached)
-    reached_names = let (more, is) = keeps held _ _ reached walk in ap names_of is ∙ ap (λ (l : List Source). idl ∷ names_of l) (ap (drop 1) (sym is))
+  module _ (tree : Tree) (parsed : IsFile idl.language text tree) (reached : List Source) (walk : Walk held (start idl.language (main_file idl text)) (all_of 0 tree) (Stopped reached names.Memory)) where
+    pub reached_names : names_of reached ≡ idl.name ∷ names_of (drop 1 reached)
+    reached_names = let (more, is) = keeps held _ _ reached walk in ap names_of is ∙ ap (λ (l : List Source). idl.name ∷ names_of l) (ap (drop 1) (sym is))
 
     due_along : (acf : Option (List ℕ)) (n : ℕ) (name : List ℕ) → slice_get (names_of reached) n ≡ Some name → IsNext held idl acf (take n (names_of reached)) name
     due_along acf zero name e = inl (refl, sym (same_Some _ _ (sym (ap (λ l. slice_get l 0) reached_names) ∙ e)))
     due_along acf (suc n) name e =
         let (x, there, is) = named_at reached (suc n) name e in
-        let r = begun held (start (main_file idl text)) (all_of 0 tree) reached walk (suc n) x (omega arith) there in
+        let r = begun held (start idl.language (main_file idl text)) (all_of 0 tree) reached walk (suc n) x (omega arith) there in
         subst (IsNext held idl acf (take (suc n) (names_of reached))) is
         (inr (text, content, inl (record { due = record { tree = tree; parsed = parsed; sources = r.before; comes = r.comes }; earlier_are = r.before_are })))
 
@@ -168,10 +169,10 @@ module _ (held : Option (List ℕ → Option (List ℕ))) (idl text : List ℕ) 
 
   -- all names are resolved, and the attribute configuration file is asked for if one is named
   module _ (state : State) (resolved : AreResolved held idl text state) where
-    walk_to : Walk held (start (main_file idl text)) (all_of 0 resolved.tree) (Stopped state.sources names.Memory)
+    walk_to : Walk held (start idl.language (main_file idl text)) (all_of 0 resolved.tree) (Stopped state.sources names.Memory)
     walk_to = done_stops held _ _ state resolved.names.walk
 
-    pub all_names : (acf : Option (List ℕ)) → idl ∷ (names_of (drop 1 state.sources) ++ option_to_list acf) ≡ all_due state.sources acf
+    pub all_names : (acf : Option (List ℕ)) → idl.name ∷ (names_of (drop 1 state.sources) ++ option_to_list acf) ≡ all_due state.sources acf
     all_names acf = ap (λ l. l ++ option_to_list acf) (sym (reached_names resolved.tree resolved.parsed state.sources walk_to))
 
     pub all_asked : (acf : Option (List ℕ)) → AreAsked held idl acf (all_due state.sources acf)
@@ -184,7 +185,7 @@ module _ (held : Option (List ℕ → Option (List ℕ))) (idl text : List ℕ) 
         earlier : AreAsked held idl (Some name) front
         earlier = along resolved.tree resolved.parsed state.sources walk_to (Some name)
 
-        main : slice_get (front ++ name ∷ []) 0 ≡ Some idl
+        main : slice_get (front ++ name ∷ []) 0 ≡ Some idl.name
         main = ap (λ l. slice_get (l ++ name ∷ []) 0) (reached_names resolved.tree resolved.parsed state.sources walk_to)
 
         by : (n : ℕ) (other : List ℕ) → slice_get (front ++ name ∷ []) n ≡ Some other → (b : Bool) → leb (length front) n ≡ b

@@ -23,6 +23,8 @@ use Rattle.nd_base.proofs.Rising.{rose_later}
 use Rattle.command_compile.specs.Compiled.{IsTextCause, IsIdlCause, AreAsked, AsksFiles, all_due, IsCompiled}
 use Rattle.command_compile.proofs.Walks.{walk_absent, walk_failed, last_source}
 use Rattle.std.specs.Prelude.{drop, option_to_list, IfOk, Result, Ok}
+use Rattle.idl_grammar.specs.declared.language.Language.{Language}
+use Rattle.idl_grammar.specs.Files.{Idl}
 use Rattle.idl_grammar.specs.Tree.{Tree}
 use Rattle.nd_types.specs.declared.interface.Interface.{Interface}
 use Rattle.command_compile.proofs.AskedFiles.{reached_names, along, all_names, all_asked}
@@ -30,27 +32,27 @@ use Rattle.command_refusals.specs.Loads.{IsLoadCause}
 use Rattle.command_compile.specs.Reading.{IsReportedUnparsed, IsOrMemory, IsJudged, MeansAfter, AsksAfter, AsksOfImports}
 
 -- tokens that are no file of the language are a main file that is refused
-pub unparsed_main : (text : List ℕ) (l : Lexed) → l.text ≡ text → AreTokens text l.tokens → (f : SyntaxFault)
-    → Told (λ a. Answers grammar.file (lexemes l) a) (Err f) → (r : NameFault) → IsReportedUnparsed l f r → IsMainFault text r
-unparsed_main text l same tokens parser.Memory h r told = subst (IsMainFault text) (sym told) tt
-unparsed_main text l same tokens (parser.Syntax k) h r told =
-    subst (IsMainFault text) (sym told)
+pub unparsed_main : {language : Language} (text : List ℕ) (l : Lexed) → l.text ≡ text → AreTokens text l.tokens → (f : SyntaxFault)
+    → Told (λ a. Answers grammar.file (lexemes language l) a) (Err f) → (r : NameFault) → IsReportedUnparsed l f r → IsMainFault language text r
+unparsed_main {language} text l same tokens parser.Memory h r told = subst (IsMainFault language text) (sym told) tt
+unparsed_main {language} text l same tokens (parser.Syntax k) h r told =
+    subst (IsMainFault language text) (sym told)
     (refl, record { lexed = l; told = Syntax k; token = k; is_told = (refl, refl); read = record { text_is = same; tokens = tokens; answered = h }; octet = refl })
-unparsed_main text l same tokens (parser.Deep k) h r told =
-    subst (IsMainFault text) (sym told)
+unparsed_main {language} text l same tokens (parser.Deep k) h r told =
+    subst (IsMainFault language text) (sym told)
     (refl, record { lexed = l; told = Passes Depth k; token = k; is_told = (refl, refl); read = record { text_is = same; tokens = tokens; answered = h }; octet = refl })
-unparsed_main text l same tokens (parser.Banned k) h r told =
-    subst (IsMainFault text) (sym told)
+unparsed_main {language} text l same tokens (parser.Banned k) h r told =
+    subst (IsMainFault language text) (sym told)
     (refl, record { lexed = l; told = Passes Ban k; token = k; is_told = (refl, refl); read = record { text_is = same; tokens = tokens; answered = h }; octet = refl })
 
 -- one source is a main file
-pub one_source : (s : List Source) → length s ≡ 1 → (idl : List ℕ) × (text : List ℕ) × (s ≡ main_file idl text)
+pub one_source : (s : List Source) → length s ≡ 1 → (name : List ℕ) × (text : List ℕ) × ((language : Language) → s ≡ main_file (record { name = name; language = language }) text)
 one_source [] e = cc
-one_source (x ∷ []) e = (x.name, x.text, refl)
+one_source (x ∷ []) e = (x.name, x.text, λ language. refl)
 one_source (x ∷ y ∷ s) e = cc
 
 -- a fault of the main file is of no import
-pub main_absent : (before now : ℕ) (text : List ℕ) (f : NameFault) → IsMainFault text f → IsAbsent before now f
+pub main_absent : {language : Language} (before now : ℕ) (text : List ℕ) (f : NameFault) → IsMainFault language text f → IsAbsent before now f
 main_absent before now text names.Memory h = tt
 main_absent before now text (names.Unknown p) h = tt
 main_absent before now text (names.Twice p q) h = tt
@@ -62,7 +64,7 @@ main_absent before now text (names.Failed n) h = absurd h
 main_absent before now text (names.Lex n x) h = tt
 main_absent before now text (names.Syntax n at x) h = tt
 
-pub main_failed : (before now : ℕ) (text : List ℕ) (f : NameFault) → IsMainFault text f → IsFailed before now f
+pub main_failed : {language : Language} (before now : ℕ) (text : List ℕ) (f : NameFault) → IsMainFault language text f → IsFailed before now f
 main_failed before now text names.Memory h = tt
 main_failed before now text (names.Unknown p) h = tt
 main_failed before now text (names.Twice p q) h = tt
@@ -87,7 +89,7 @@ last_name sources before name n same number =
     named before name = rw (last_source before (source name [])) refl
 
 -- an import that is absent is due and missing
-pub absent_due : (held : Held) (idl text : List ℕ) (sources : List Source) (n : ℕ) → IsNameFault held idl text sources (names.Absent n)
+pub absent_due : (held : Held) (idl : Idl) (text : List ℕ) (sources : List Source) (n : ℕ) → IsNameFault held idl text sources (names.Absent n)
     → IsDueImport held idl text (name_in sources n) × IsMissing held (name_in sources n)
 absent_due held idl text sources n (inl (same, never)) = absurd never
 absent_due held idl text sources n (inr (tree, parsed, inr never)) = absurd never
@@ -99,7 +101,7 @@ absent_due held idl text sources n (inr (tree, parsed, inl walk)) =
     )
 
 -- an import whose load fails is due
-pub failed_due : (held : Held) (idl text : List ℕ) (sources : List Source) (n : ℕ) → IsNameFault held idl text sources (names.Failed n)
+pub failed_due : (held : Held) (idl : Idl) (text : List ℕ) (sources : List Source) (n : ℕ) → IsNameFault held idl text sources (names.Failed n)
     → IsDueImport held idl text (name_in sources n)
 failed_due held idl text sources n (inl (same, never)) = absurd never
 failed_due held idl text sources n (inr (tree, parsed, inr never)) = absurd never
@@ -110,11 +112,11 @@ failed_due held idl text sources n (inr (tree, parsed, inl walk)) =
       tree = tree;
       parsed = parsed;
       sources = r.before;
-      comes = subst (λ (s : List Source). Walk held (start (main_file idl text)) (all_of 0 tree) (Stopped s (names.Failed (length r.before)))) r.sources_are
-          (subst (λ k. Walk held (start (main_file idl text)) (all_of 0 tree) (Stopped sources (names.Failed k))) r.number walk);
+      comes = subst (λ (s : List Source). Walk held (start idl.language (main_file idl text)) (all_of 0 tree) (Stopped s (names.Failed (length r.before)))) r.sources_are
+          (subst (λ k. Walk held (start idl.language (main_file idl text)) (all_of 0 tree) (Stopped sources (names.Failed k))) r.number walk);
     })
 
-fault_cause : (f : FilesOver) (idl text : List ℕ) (acf : Option (List ℕ)) (sources : List Source) (x : NameFault) → IsNameFault f.held idl text sources x
+fault_cause : (f : FilesOver) (idl : Idl) (text : List ℕ) (acf : Option (List ℕ)) (sources : List Source) (x : NameFault) → IsNameFault f.held idl text sources x
     → IsAbsent f.absences.before f.absences.now x → IsFailed f.faults.before f.faults.now x → IsTextCause f idl text acf (reported_fault sources x)
 fault_cause f idl text acf sources names.Memory h a b = tt
 fault_cause f idl text acf sources (names.Unknown p) h a b = by_names sources (names.Unknown p) h refl
@@ -131,7 +133,7 @@ fault_cause f idl text acf sources (names.Syntax n at (parser.Syntax k)) h a b =
 fault_cause f idl text acf sources (names.Syntax n at (parser.Deep k)) h a b = by_names sources (names.Syntax n at (parser.Deep k)) h refl
 fault_cause f idl text acf sources (names.Syntax n at (parser.Banned k)) h a b = by_names sources (names.Syntax n at (parser.Banned k)) h refl
 
-pub text_cause : (f : FilesOver) (idl text : List ℕ) (acf : Option (List ℕ)) (sources : List Source) (x : NameFault) → IsNameFault f.held idl text sources x
+pub text_cause : (f : FilesOver) (idl : Idl) (text : List ℕ) (acf : Option (List ℕ)) (sources : List Source) (x : NameFault) → IsNameFault f.held idl text sources x
     → IsAbsent f.absences.before f.absences.now x → IsFailed f.faults.before f.faults.now x → (told : Refusal) → IsOrMemory (reported_fault sources x) told
     → IsTextCause f idl text acf told
 text_cause f idl text acf sources x h a b told (inl is) = subst (IsTextCause f idl text acf) (sym is) (fault_cause f idl text acf sources x h a b)
@@ -140,7 +142,7 @@ text_cause f idl text acf sources x h a b told (inr is) = subst (IsTextCause f i
 -- ## Loads
 
 -- what came after an earlier load
-pub after : (f g : FilesOver) (idl text : List ℕ) (acf : Option (List ℕ)) (r : Refusal) → g.held ≡ f.held → f.absences.before ≤ g.absences.before
+pub after : (f g : FilesOver) (idl : Idl) (text : List ℕ) (acf : Option (List ℕ)) (r : Refusal) → g.held ≡ f.held → f.absences.before ≤ g.absences.before
     → f.absences.now ≡ g.absences.now → f.faults.before ≤ g.faults.before → f.faults.now ≡ g.faults.now → IsTextCause g idl text acf r → IsTextCause f idl text acf r
 after f g idl text acf Memory same low now low' now' cause = tt
 after f g idl text acf (Absent file) same low now low' now' (rose, due, missing) = (
@@ -170,7 +172,7 @@ after f g idl text acf (BadScript row) same low now low' now' cause = absurd cau
 after f g idl text acf LongScript same low now low' now' cause = absurd cause
 
 -- why a main file that was loaded means nothing is why the files do
-loaded_cause : (f : FilesOver) (idl text : List ℕ) (acf : Option (List ℕ)) (r : Refusal) → IsContent f.held idl text → IsTextCause f idl text acf r → IsIdlCause f idl acf r
+loaded_cause : (f : FilesOver) (idl : Idl) (text : List ℕ) (acf : Option (List ℕ)) (r : Refusal) → IsContent f.held idl.name text → IsTextCause f idl text acf r → IsIdlCause f idl acf r
 loaded_cause f idl text acf Memory content cause = tt
 loaded_cause f idl text acf (Absent file) content (rose, due, missing) = (rose, inr (text, content, due), missing)
 loaded_cause f idl text acf (FileFailed file) content (rose, due) = (rose, inr (text, content, due))
@@ -192,13 +194,13 @@ loaded_cause f idl text acf (BadScript row) content cause = absurd cause
 loaded_cause f idl text acf LongScript content cause = absurd cause
 
 -- what came after the load of the main file
-pub after_load : (f g : FilesOver) (idl text : List ℕ) (acf : Option (List ℕ)) (r : Refusal) → IsContent f.held idl text → g.held ≡ f.held
+pub after_load : (f g : FilesOver) (idl : Idl) (text : List ℕ) (acf : Option (List ℕ)) (r : Refusal) → IsContent f.held idl.name text → g.held ≡ f.held
     → f.absences.before ≤ g.absences.before → f.absences.now ≡ g.absences.now → f.faults.before ≤ g.faults.before → f.faults.now ≡ g.faults.now
     → IsTextCause g idl text acf r → IsIdlCause f idl acf r
 after_load f g idl text acf r content same low now low' now' cause = loaded_cause f idl text acf r content (after f g idl text acf r same low now low' now' cause)
 
 -- a main file that was not loaded is why the files mean nothing
-pub main_not_loaded : (f : FilesOver) (idl : List ℕ) (acf : Option (List ℕ)) (r : Refusal) → IsLoadCause f idl r → IsIdlCause f idl acf r
+pub main_not_loaded : (f : FilesOver) (idl : Idl) (acf : Option (List ℕ)) (r : Refusal) → IsLoadCause f idl.name r → IsIdlCause f idl acf r
 main_not_loaded f idl acf Memory cause = tt
 main_not_loaded f idl acf (Absent file) (same, rose, missing) = (rose, inl same, subst (IsMissing f.held) (sym same) missing)
 main_not_loaded f idl acf (FileFailed file) (same, rose) = (rose, inl same)
@@ -222,22 +224,22 @@ main_not_loaded f idl acf LongScript cause = absurd cause
 -- ## Names asked for
 
 -- the main file, and what was asked for after it
-pub asks_after : (f g : FilesOver) (idl : List ℕ) (acf : Option (List ℕ)) → g.held ≡ f.held → g.asked ≡ f.asked ++ idl ∷ [] → f.asked_now ≡ g.asked_now → AsksAfter g idl acf
+pub asks_after : (f g : FilesOver) (idl : Idl) (acf : Option (List ℕ)) → g.held ≡ f.held → g.asked ≡ f.asked ++ idl.name ∷ [] → f.asked_now ≡ g.asked_now → AsksAfter g idl acf
     → AsksFiles f (Some (record { idl = idl; acf = acf }))
 asks_after f g idl acf same first now a =
-    (idl ∷ a.rest, now ∙ a.asked ∙ ap (λ l. l ++ a.rest) first ∙ append_assoc f.asked (idl ∷ []) a.rest, subst (λ h. AreAsked h idl acf (idl ∷ a.rest)) same a.are_asked)
+    (idl.name ∷ a.rest, now ∙ a.asked ∙ ap (λ l. l ++ a.rest) first ∙ append_assoc f.asked (idl.name ∷ []) a.rest, subst (λ h. AreAsked h idl acf (idl.name ∷ a.rest)) same a.are_asked)
 
 -- the main file was loaded, and what is after it means an interface
-pub compiled_after : (f g : FilesOver) (idl text : List ℕ) (acf : Option (List ℕ)) → IsContent f.held idl text → g.held ≡ f.held → g.asked ≡ f.asked ++ idl ∷ []
+pub compiled_after : (f g : FilesOver) (idl : Idl) (text : List ℕ) (acf : Option (List ℕ)) → IsContent f.held idl.name text → g.held ≡ f.held → g.asked ≡ f.asked ++ idl.name ∷ []
     → f.asked_now ≡ g.asked_now → (i : Interface) → MeansAfter g idl text acf i → IsCompiled f idl acf i
 compiled_after f g idl text acf content same first now i m =
-    record { file = text; loaded = content; means = moved.0; all_asked = now ∙ m.asked ∙ ap (λ l. l ++ m.rest) first ∙ append_assoc f.asked (idl ∷ []) m.rest ∙ ap (λ l. f.asked ++ l) moved.1 }
+    record { file = text; loaded = content; means = moved.0; all_asked = now ∙ m.asked ∙ ap (λ l. l ++ m.rest) first ∙ append_assoc f.asked (idl.name ∷ []) m.rest ∙ ap (λ l. f.asked ++ l) moved.1 }
   where
-    moved : (x : Means f.held idl text acf i) × (idl ∷ m.rest ≡ all_due x.state.sources acf)
-    moved = subst (λ h. (x : Means h idl text acf i) × (idl ∷ m.rest ≡ all_due x.state.sources acf)) same (m.means, m.rest_is)
+    moved : (x : Means f.held idl text acf i) × (idl.name ∷ m.rest ≡ all_due x.state.sources acf)
+    moved = subst (λ h. (x : Means h idl text acf i) × (idl.name ∷ m.rest ≡ all_due x.state.sources acf)) same (m.means, m.rest_is)
 
 -- names are resolved, and the attribute configuration file was asked for if one is named
-pub resolved_asks : (f : FilesOver) (idl text : List ℕ) (acf : Option (List ℕ)) (state : State) → IsContent f.held idl text → AreResolved f.held idl text state
+pub resolved_asks : (f : FilesOver) (idl : Idl) (text : List ℕ) (acf : Option (List ℕ)) (state : State) → IsContent f.held idl.name text → AreResolved f.held idl text state
     → f.asked_now ≡ (f.asked ++ names_of (drop 1 state.sources)) ++ option_to_list acf → AsksAfter f idl acf
 resolved_asks f idl text acf state content resolved now = record {
   rest = names_of (drop 1 state.sources) ++ option_to_list acf;
@@ -245,7 +247,7 @@ resolved_asks f idl text acf state content resolved now = record {
   are_asked = subst (AreAsked f.held idl acf) (sym (all_names f.held idl text content state resolved acf)) (all_asked f.held idl text content state resolved acf);
 }
 
-pub resolved_means : (f : FilesOver) (idl text : List ℕ) (acf : Option (List ℕ)) (state : State) → IsContent f.held idl text → AreResolved f.held idl text state
+pub resolved_means : (f : FilesOver) (idl : Idl) (text : List ℕ) (acf : Option (List ℕ)) (state : State) → IsContent f.held idl.name text → AreResolved f.held idl text state
     → f.asked_now ≡ (f.asked ++ names_of (drop 1 state.sources)) ++ option_to_list acf → (i : Interface) → IsJudged f.held idl text acf state i → MeansAfter f idl text acf i
 resolved_means f idl text acf state content resolved now i j = record {
   means = j.means;
@@ -255,10 +257,10 @@ resolved_means f idl text acf state content resolved now i j = record {
 }
 
 -- imports along a walk
-pub imports_asked : (held : Held) (idl text : List ℕ) (tree : Tree) (sources : List Source) (asked asked_now : List (List ℕ)) → IsFile text tree → sources ≡ main_file idl text
-    → AsksAlong held sources tree asked asked_now → AsksOfImports held idl text asked asked_now
+pub imports_asked : (held : Held) (idl : Idl) (text : List ℕ) (tree : Tree) (sources : List Source) (asked asked_now : List (List ℕ)) → IsFile idl.language text tree → sources ≡ main_file idl text
+    → AsksAlong idl.language held sources tree asked asked_now → AsksOfImports held idl text asked asked_now
 imports_asked held idl text tree sources asked asked_now parsed same a =
-    let walk = subst (λ (m : List Source). Walk held (start m) (all_of 0 tree) (Stopped a.reached names.Memory)) same a.walk in
+    let walk = subst (λ (m : List Source). Walk held (start idl.language m) (all_of 0 tree) (Stopped a.reached names.Memory)) same a.walk in
     record {
       rest = names_of (drop 1 a.reached);
       asked_is = a.asked ∙ ap (λ (m : List Source). asked ++ names_of (drop (length m) a.reached)) same;

@@ -3,6 +3,7 @@ use Rattle.std.proofs.Common.{◌≡◌, ℕ, Bool, true, eqb, List, [], ◌∷�
 use Rattle.std.specs.List.{list_all}
 use Rattle.std.specs.Cmp.Derive.{both_true}
 use Rattle.std.proofs.lemmas.Bool.{and_parts as both}
+use Rattle.idl_grammar.specs.declared.language.Language.{Language}
 use Rattle.nd_lemmas.proofs.Lists.{join_all}
 use Rattle.idl_grammar.specs.declared.words.Spelling.{Spelling}
 use Rattle.idl_grammar.specs.Tree.{Tree}
@@ -48,6 +49,6 @@ module _ (held : Option (List ℕ → Option (List ℕ))) (d : State) where
   all_ended (walk.enters s place name rest _ text t due content is w) h i =
       all_ended w h (join_all due_named (all_of (length s.sources) t) rest (all_due (length s.sources) t (file_named text t is)) i)
 
-pub resolved_named : (held : Option (List ℕ → Option (List ℕ))) (main : List Source) (text : List ℕ) (t : Tree) (s : State) → IsFile text t → IsResolved held main t s
+pub resolved_named : {language : Language} (held : Option (List ℕ → Option (List ℕ))) (main : List Source) (text : List ℕ) (t : Tree) (s : State) → IsFile language text t → IsResolved language held main t s
     → list_all ended_named s.ended ≡ true
 resolved_named held main text t s is r = all_ended held s r.walk refl (all_due 0 t (file_named text t is))

@@ -3,6 +3,7 @@ use Rattle.std.proofs.Common.{◌≡◌, ◌⊎◌, inl, inr, ℕ, zero, suc, �
 use Rattle.std.proofs.Common.{Ok, Err}
 use Rattle.std.proofs.Math.Decide.{dec_lt}
 use Rattle.std.proofs.lemmas.List.{length-append}
+use Rattle.idl_grammar.specs.declared.language.Language.{Language}
 use Rattle.nd_base.specs.declared.octets.Place.{Place}
 use Rattle.nd_base.specs.Over.{loaded, IsContent, IsMissing}
 use Rattle.idl_grammar.specs.Tree.{Tree}
@@ -81,7 +82,7 @@ module _ (held : Option (List ℕ → Option (List ℕ))) (fails : List ℕ → 
     }
 
     module _ (s : State) (place : Place) (name : List ℕ) (rest : List Due) (enough : most_files ≤ length s.sources + n) where
-      by_text : fails name ≡ false → IsDue s.sources name → (text : List ℕ) → IsContent held name text → IsReadAs text → HasToldEnding held fails s (Load place name ∷ rest)
+      by_text : fails name ≡ false → IsDue s.sources name → (text : List ℕ) → IsContent held name text → IsReadAs s.language text → HasToldEnding held fails s (Load place name ∷ rest)
       by_text loads due text content (AsFile t is) =
           let size : length (with_source s name text).sources ≡ length s.sources + 1 = length-append s.sources (source name text ∷ []) in
           let e = deeper (with_source s name text) (all_of (length s.sources) t ++ rest) (omega (arith, size, due.room)) (omega (arith, size, enough)) in record {
@@ -94,7 +95,7 @@ module _ (held : Option (List ℕ → Option (List ℕ))) (fails : List ℕ → 
       by_text loads due text content (AsUncut at kind is) = record { ending = _; memory = refl; walk = walk.uncut s place name rest text at kind due content is; fails_as = loads }
 
       by_content : fails name ≡ false → IsDue s.sources name → Holds held name → HasToldEnding held fails s (Load place name ∷ rest)
-      by_content loads due (inl c) = by_text loads due c.0 c.1 (each_read c.0)
+      by_content loads due (inl c) = by_text loads due c.0 c.1 (each_read s.language c.0)
       by_content loads due (inr missing) = record { ending = _; memory = refl; walk = walk.absent s place name rest due missing; fails_as = loads }
 
       by_load : IsDue s.sources name → (b : Bool) → fails name ≡ b → HasToldEnding held fails s (Load place name ∷ rest)
@@ -131,13 +132,13 @@ module _ (held : Option (List ℕ → Option (List ℕ))) where
   each_walk s dues =
       let e = each_told_walk held none_fails s dues in record { ending = e.ending; decided = is_told_decided e.memory e.walk e.fails_as; walk = e.walk }
 
-  by_first : (main : List Source) (t : Tree) (s : State) → Walk held (start main) (all_of 0 t) (Done s) → (o : Option Place) → first_undefined s.known s.known.uses ≡ o → Comes held main t
-  by_first main t s w None is = ToNames s (record { walk = w; whole = is })
-  by_first main t s w (Some place) is = ToFault s.sources (fault.Unknown place) refl (inr (record { state = s; walk = w; sources_are = refl; first = is }))
+  by_first : (language : Language) (main : List Source) (t : Tree) (s : State) → Walk held (start language main) (all_of 0 t) (Done s) → (o : Option Place) → first_undefined s.known s.known.uses ≡ o → Comes language held main t
+  by_first language main t s w None is = ToNames s (record { walk = w; whole = is })
+  by_first language main t s w (Some place) is = ToFault s.sources (fault.Unknown place) refl (inr (record { state = s; walk = w; sources_are = refl; first = is }))
 
-  by_ending : (main : List Source) (t : Tree) (e : Ending) → is_decided e ≡ true → Walk held (start main) (all_of 0 t) e → Comes held main t
-  by_ending main t (Done s) d w = by_first main t s w (first_undefined s.known s.known.uses) refl
-  by_ending main t (Stopped sources f) d w = ToFault sources f d (inl w)
+  by_ending : (language : Language) (main : List Source) (t : Tree) (e : Ending) → is_decided e ≡ true → Walk held (start language main) (all_of 0 t) e → Comes language held main t
+  by_ending language main t (Done s) d w = by_first language main t s w (first_undefined s.known s.known.uses) refl
+  by_ending language main t (Stopped sources f) d w = ToFault sources f d (inl w)
 
-  pub each_main : (main : List Source) (t : Tree) → Comes held main t
-  each_main main t = let e = each_walk (start main) (all_of 0 t) in by_ending main t e.ending e.decided e.walk
+  pub each_main : (language : Language) (main : List Source) (t : Tree) → Comes language held main t
+  each_main language main t = let e = each_walk (start language main) (all_of 0 t) in by_ending language main t e.ending e.decided e.walk

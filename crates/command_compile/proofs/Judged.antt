@@ -1,5 +1,6 @@
 -- What judging files answers that are resolved, from what its steps answer.
 use Rattle.std.proofs.Common.{◌≡◌, ◌∙◌, ℕ, Bool, true, false, eqb, List, Option, Some, None, Err, refl, sym, ap, subst, inl, inr}
+use Rattle.idl_grammar.specs.Files.{Idl}
 use Rattle.idl_grammar.specs.Text.{Depth, Ban}
 use Rattle.idl_grammar.specs.ReadPhrases.{Syntax, Passes}
 use Rattle.nd_base.specs.declared.octets.Place.{Place}
@@ -85,7 +86,7 @@ is_placed s (Some x) rule place = by (eqb place.file acf_file)
     by true = (_, _, _, _, refl)
     by false = (_, _, _, _, refl)
 
-module _ (f : FilesOver) (idl text : List ℕ) (acf : Option (List ℕ)) (state : State) (resolved : AreResolved f.held idl text state) where
+module _ (f : FilesOver) (idl : Idl) (text : List ℕ) (acf : Option (List ℕ)) (state : State) (resolved : AreResolved f.held idl text state) where
   -- a rule is broken
   pub broken : (beside : Option AcfFile) → IsBeside f.held acf beside → (rule : ℕ) (place : Place)
       → first_of_all (resolved_world state) (tree_beside beside) ≡ Some (breach rule place) → (r : Refusal)
@@ -97,14 +98,14 @@ module _ (f : FilesOver) (idl text : List ℕ) (acf : Option (List ℕ)) (state 
   broken beside read rule place first r (inr is) = subst (IsTextCause f idl text acf) (sym is) tt
 
 -- files that keep the rules
-pub means_beside : (held : Option (List ℕ → Option (List ℕ))) (idl text : List ℕ) (acf : Option (List ℕ)) (state : State) → AreResolved held idl text state
+pub means_beside : (held : Option (List ℕ → Option (List ℕ))) (idl : Idl) (text : List ℕ) (acf : Option (List ℕ)) (state : State) → AreResolved held idl text state
     → (beside : Option AcfFile) → IsBeside held acf beside → (i : Interface) → IsMeaningBeside (resolved_world state) (tree_beside beside) i
     → IsJudged held idl text acf state i
 means_beside held idl text acf state resolved beside read i meaning =
     record { means = record { state = state; resolved = resolved; beside = beside; read = read; meaning = meaning }; state_is = refl }
 
 -- the attribute configuration file was not loaded and read
-module _ (f : FilesOver) (idl text : List ℕ) (state : State) (resolved : AreResolved f.held idl text state) where
+module _ (f : FilesOver) (idl : Idl) (text : List ℕ) (state : State) (resolved : AreResolved f.held idl text state) where
   acf_refused : (name : List ℕ) (r : Refusal) → IsAcfCause f name r → IsTextCause f idl text (Some name) r
   acf_refused name Memory cause = tt
   acf_refused name (Absent file) (same, rose, missing) =

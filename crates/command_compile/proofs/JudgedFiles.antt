@@ -2,6 +2,8 @@
 use Rattle.std.proofs.Common.{◌≡◌, ℕ, Bool, true, false, ◌||◌, eqb, List, [], ◌∷◌, ◌++◌, map, refl, sym, ap, subst, ◌∙◌, Option, Some, None, Ok}
 use Rattle.std.specs.List.{list_any}
 use Rattle.std.proofs.lemmas.List.Folds.{list_any-append}
+use Rattle.idl_grammar.specs.Files.{Idl}
+use Rattle.idl_grammar.specs.declared.language.Language.{Language}
 use Rattle.nd_lemmas.proofs.Booleans.{clash}
 use Rattle.idl_grammar.specs.Tree.{Tree}
 use Rattle.idl_scope.specs.Known.{Ended, ended}
@@ -66,7 +68,7 @@ module _ (held : Option (List ℕ → Option (List ℕ))) (d : State) where
 last_due : (xs : List Due) (t : Tree) → main_due (xs ++ End 0 t ∷ []) ≡ true
 last_due xs t = list_any-append ends_main xs (End 0 t ∷ []) ∙ or_true (main_due xs)
 
-main_ended : (held : Option (List ℕ → Option (List ℕ))) (main : List Source) (t : Tree) (s : State) → IsResolved held main t s → has_main s.ended ≡ true
+main_ended : {language : Language} (held : Option (List ℕ → Option (List ℕ))) (main : List Source) (t : Tree) (s : State) → IsResolved language held main t s → has_main s.ended ≡ true
 main_ended held main t s r =
     main_kept held s r.walk (last_due (map (Pass 0) (attribute_steps t.attributes) ++ map (load_of 0) (imports_of t) ++ map (Pass 0) (declaration_steps true t)) t)
 
@@ -111,22 +113,22 @@ pub named_as : (w : World) (m : Meant) → meaning w ≡ m ∷ [] → HasIdentif
 unfolding meaning
 named_as w m e h = named_by w (main_among w.files) m e h
 
-pub each_resolved : (held : Option (List ℕ → Option (List ℕ))) (main : List Source) (t : Tree) (s : State) → IsResolved held main t s → IsJudged (world s)
-each_resolved held main t s r = judged (world s) (main_ended held main t s r)
+pub each_resolved : (language : Language) (held : Option (List ℕ → Option (List ℕ))) (main : List Source) (t : Tree) (s : State) → IsResolved language held main t s → IsJudged (world s)
+each_resolved language held main t s r = judged (world s) (main_ended held main t s r)
 
-module _ (held : Option (List ℕ → Option (List ℕ))) (name text : List ℕ) where
-  by_judged : (t : Tree) → IsFile text t → (s : State) → IsResolved held (main_file name text) t s → IsJudged (world s) → HasOutcome held name text
-  by_judged t file s r (Means m is) = Interface t file s r m is (is.legal (named_as (world s) m is.means (meant_named held (main_file name text) text t s file r)))
+module _ (held : Option (List ℕ → Option (List ℕ))) (idl : Idl) (text : List ℕ) where
+  by_judged : (t : Tree) → IsFile idl.language text t → (s : State) → IsResolved idl.language held (main_file idl text) t s → IsJudged (world s) → HasOutcome held idl text
+  by_judged t file s r (Means m is) = Interface t file s r m is (is.legal (named_as (world s) m is.means (meant_named held (main_file idl text) text t s file r)))
   by_judged t file s r (Breaks b is) = Broken t file s r b is
 
-  by_names : (t : Tree) → IsFile text t → Comes held (main_file name text) t → HasOutcome held name text
-  by_names t file (ToNames s r) = by_judged t file s r (each_resolved held (main_file name text) t s r)
+  by_names : (t : Tree) → IsFile idl.language text t → Comes idl.language held (main_file idl text) t → HasOutcome held idl text
+  by_names t file (ToNames s r) = by_judged t file s r (each_resolved idl.language held (main_file idl text) t s r)
   by_names t file (ToFault sources f decided is) = Unnamed t file sources f decided is
 
-  by_read : IsReadAs text → HasOutcome held name text
-  by_read (AsFile t file) = by_names t file (each_main held (main_file name text) t)
+  by_read : IsReadAs idl.language text → HasOutcome held idl text
+  by_read (AsFile t file) = by_names t file (each_main held idl.language (main_file idl text) t)
   by_read (AsNoFile at f is) = NoFile at f is
   by_read (AsUncut at kind is) = Uncut at kind is
 
-  pub each_outcome : HasOutcome held name text
-  each_outcome = by_read (each_read text)
+  pub each_outcome : HasOutcome held idl text
+  each_outcome = by_read (each_read idl.language text)

@@ -5,6 +5,7 @@ use Rattle.std.specs.Cmp.Derive.{both_true}
 use Rattle.std.proofs.lemmas.List.Concat.{flat_map-cons}
 use Rattle.std.proofs.lemmas.List.Folds.{list_all-map}
 use Rattle.std.proofs.lemmas.Bool.{and_parts as both}
+use Rattle.idl_grammar.specs.declared.language.Language.{Language}
 use Rattle.nd_lemmas.proofs.Lists.{join_all}
 use Rattle.nd_base.specs.Text.{is_identifier}
 use Rattle.nd_types.specs.declared.types.Arm as arm
@@ -161,7 +162,7 @@ operations_are s (n ∷ ns) h =
     ∙ join_all has_names (operation_in s n.names n.node) (flat_map (λ m. operation_in s m.names m.node) ns) (operation_is s n.names n.node h.0) (operations_are s ns h.1)
 
 -- what texts mean has identifiers for names
-pub meant_named : (held : Option (List ℕ → Option (List ℕ))) (main : List Source) (text : List ℕ) (t : Tree) (s : State) → IsFile text t → IsResolved held main t s
+pub meant_named : {language : Language} (held : Option (List ℕ → Option (List ℕ))) (main : List Source) (text : List ℕ) (t : Tree) (s : State) → IsFile language text t → IsResolved language held main t s
     → HasIdentifiers (types_of (scene_of (world s))) (operations_of (scene_of (world s)))
 meant_named held main text t s is r =
     let scene = scene_of (world s) in

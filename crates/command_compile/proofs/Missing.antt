@@ -1,6 +1,7 @@
 -- One file alone is due and missing.
 use Rattle.std.proofs.Common.{◌≡◌, ◌∙◌, ℕ, List, [], ◌∷◌, length, Option, Some, refl, sym, ap, subst, inl, inr}
 use Rattle.std.proofs.lemmas.Option.{same_Some}
+use Rattle.idl_grammar.specs.Files.{Idl}
 use Rattle.nd_base.specs.Over.{IsMissing}
 use Rattle.idl_grammar.specs.Tree.{Tree}
 use Rattle.idl_scope.specs.declared.name_fault.NameFault.TheVariants as names
@@ -15,7 +16,7 @@ abbrev absent_name : Ending → List ℕ
 absent_name (Stopped sources (names.Absent n)) = name_in sources n
 absent_name _ = []
 
-module _ (k : List ℕ → Option (List ℕ)) (idl text : List ℕ) where
+module _ (k : List ℕ → Option (List ℕ)) (idl : Idl) (text : List ℕ) where
   -- where the load of a missing file would fail, it is absent
   due_absent : (s : State) (due : List Due) (sources : List Source) (n : ℕ) (before : List Source) (name : List ℕ) → sources ≡ and_source before name []
       → n ≡ length before → IsMissing (Some k) name → Walk (Some k) s due (Stopped sources (names.Failed n)) → Walk (Some k) s due (Stopped sources (names.Absent n))
@@ -34,12 +35,12 @@ module _ (k : List ℕ → Option (List ℕ)) (idl text : List ℕ) where
 
   -- a missing import ends the walk
   absent_walk : (file : List ℕ) (due : IsDueImport (Some k) idl text file) → IsMissing (Some k) file
-      → Walk (Some k) (start (main_file idl text)) (all_of 0 due.tree) (Stopped (and_source due.sources file []) (names.Absent (length due.sources)))
+      → Walk (Some k) (start idl.language (main_file idl text)) (all_of 0 due.tree) (Stopped (and_source due.sources file []) (names.Absent (length due.sources)))
   absent_walk file due missing =
-      due_absent (start (main_file idl text)) (all_of 0 due.tree) (and_source due.sources file []) (length due.sources) due.sources file refl refl missing due.comes
+      due_absent (start idl.language (main_file idl text)) (all_of 0 due.tree) (and_source due.sources file []) (length due.sources) due.sources file refl refl missing due.comes
 
-  moved : (t u : Tree) (e : Ending) → t ≡ u → Walk (Some k) (start (main_file idl text)) (all_of 0 u) e → Walk (Some k) (start (main_file idl text)) (all_of 0 t) e
-  moved t u e same w = subst (λ z. Walk (Some k) (start (main_file idl text)) (all_of 0 z) e) (sym same) w
+  moved : (t u : Tree) (e : Ending) → t ≡ u → Walk (Some k) (start idl.language (main_file idl text)) (all_of 0 u) e → Walk (Some k) (start idl.language (main_file idl text)) (all_of 0 t) e
+  moved t u e same w = subst (λ z. Walk (Some k) (start idl.language (main_file idl text)) (all_of 0 z) e) (sym same) w
 
   one_import : (file other : List ℕ) → IsDueImport (Some k) idl text file → IsMissing (Some k) file → IsDueImport (Some k) idl text other → IsMissing (Some k) other
       → file ≡ other
@@ -48,7 +49,7 @@ module _ (k : List ℕ → Option (List ℕ)) (idl text : List ℕ) where
       let s' = and_source due'.sources other [] in
       let n = length due.sources in
       let n' = length due'.sources in
-      let same : due.tree ≡ due'.tree = one_tree text due.tree due'.tree due.parsed due'.parsed in
+      let same : due.tree ≡ due'.tree = one_tree idl.language text due.tree due'.tree due.parsed due'.parsed in
       let w = absent_walk file due missing in
       let v = moved due.tree due'.tree (Stopped s' (names.Absent n')) same (absent_walk other due' missing') in
       let e : Stopped s (names.Absent n) ≡ Stopped s' (names.Absent n') = one_ending k refl refl w v in
@@ -58,7 +59,7 @@ module _ (k : List ℕ → Option (List ℕ)) (idl text : List ℕ) where
   import_or_resolved file state due missing r =
       let s = and_source due.sources file [] in
       let n = length due.sources in
-      let same : due.tree ≡ r.tree = one_tree text due.tree r.tree due.parsed r.parsed in
+      let same : due.tree ≡ r.tree = one_tree idl.language text due.tree r.tree due.parsed r.parsed in
       let w = absent_walk file due missing in
       let v = moved due.tree r.tree (Done state) same r.names.walk in
       let e : Stopped s (names.Absent n) ≡ Done state = one_ending k refl refl w v in

@@ -1,5 +1,6 @@
 -- A text is a file of one tree, or is refused at one octet for one fault, and never both.
 use Rattle.std.proofs.Common.{◌≡◌, ◌∙◌, ℕ, List, Result, Ok, Err, sym, ap, ap₂, arith}
+use Rattle.idl_grammar.specs.declared.language.Language.{Language}
 use Rattle.idl_grammar.specs.Text.{Depth, Ban, lexemes}
 use Rattle.idl_grammar.specs.ReadPhrases.{Fault, Syntax, Passes}
 use Rattle.idl_lexer.specs.declared.tokens.LexKind.{LexKind}
@@ -14,7 +15,7 @@ use Rattle.idl_grammar.specs.declared.fault.SyntaxFault.TheVariants as syntax
 use Rattle.idl_names.specs.Walk.{IsRead, IsFile, IsNoFile, IsSyntaxFault}
 use Rattle.idl_names.proofs.Once.{one_answer, same_tokens}
 
-one_lexed : (text : List ℕ) (a b : Lexed) (u v : Result Tree Fault) → IsRead text a u → IsRead text b v → a ≡ b
+one_lexed : {language : Language} (text : List ℕ) (a b : Lexed) (u v : Result Tree Fault) → IsRead language text a u → IsRead language text b v → a ≡ b
 one_lexed text a b u v x y =
     let t : a.text ≡ b.text = x.text_is ∙ sym y.text_is in
     let e : a.tokens ≡ b.tokens = same_tokens a.tokens b.tokens (one_verdict text (Cut b.tokens) (Cut a.tokens) y.tokens x.tokens) in
@@ -22,15 +23,15 @@ one_lexed text a b u v x y =
       made : a.text ≡ b.text → a.tokens ≡ b.tokens → ◌≡◌ {A = Lexed} (record { text = a.text; tokens = a.tokens }) (record { text = b.text; tokens = b.tokens })
       made p q = cc
 
-abbrev answer_of : Lexed → Result Tree Fault
-answer_of l = file_answer 64 129 (lexemes l)
+abbrev answer_of : Language → Lexed → Result Tree Fault
+answer_of language l = file_answer 64 129 (lexemes language l)
 
-alone : (text : List ℕ) (l : Lexed) (v : Result Tree Fault) → IsRead text l v → v ≡ answer_of l
-alone text l v r = file_answered_alone 64 129 (omega arith) (omega arith) (lexemes l) (lexemes_real l) v r.answered
+alone : (language : Language) (text : List ℕ) (l : Lexed) (v : Result Tree Fault) → IsRead language text l v → v ≡ answer_of language l
+alone language text l v r = file_answered_alone 64 129 (omega arith) (omega arith) (lexemes language l) (lexemes_real language l) v r.answered
 
-pub never_file : {B : Type 0} (text : List ℕ) (at : ℕ) (f : SyntaxFault) (t : Tree) → IsNoFile text at f → IsFile text t → B
-never_file text at f t x y =
-    let e : ◌≡◌ {A = Result Tree Fault} (Err x.told) (Ok t) = one_answer text x.lexed y.lexed (Err x.told) (Ok t) x.read y.read in
+pub never_file : {B : Type 0} {language : Language} (text : List ℕ) (at : ℕ) (f : SyntaxFault) (t : Tree) → IsNoFile language text at f → IsFile language text t → B
+never_file {language = language} text at f t x y =
+    let e : ◌≡◌ {A = Result Tree Fault} (Err x.told) (Ok t) = one_answer language text x.lexed y.lexed (Err x.told) (Ok t) x.read y.read in
     absurd (cc)
 
 abbrev pub fault_of : Fault → SyntaxFault
@@ -48,9 +49,9 @@ fault_is (syntax.Syntax k) token told h = (sym (ap fault_of h.1), h.0 ∙ sym (a
 fault_is (syntax.Deep k) token told h = (sym (ap fault_of h.1), h.0 ∙ sym (ap token_of h.1))
 fault_is (syntax.Banned k) token told h = (sym (ap fault_of h.1), h.0 ∙ sym (ap token_of h.1))
 
-pub one_no_file : (text : List ℕ) (at : ℕ) (f : SyntaxFault) (at' : ℕ) (f' : SyntaxFault) → IsNoFile text at f → IsNoFile text at' f' → (at ≡ at') × (f ≡ f')
-one_no_file text at f at' f' x y =
-    let e : ◌≡◌ {A = Result Tree Fault} (Err x.told) (Err y.told) = one_answer text x.lexed y.lexed (Err x.told) (Err y.told) x.read y.read in
+pub one_no_file : {language : Language} (text : List ℕ) (at : ℕ) (f : SyntaxFault) (at' : ℕ) (f' : SyntaxFault) → IsNoFile language text at f → IsNoFile language text at' f' → (at ≡ at') × (f ≡ f')
+one_no_file {language} text at f at' f' x y =
+    let e : ◌≡◌ {A = Result Tree Fault} (Err x.told) (Err y.told) = one_answer language text x.lexed y.lexed (Err x.told) (Err y.told) x.read y.read in
     let told : x.told ≡ y.told = cc in
     let l : x.lexed ≡ y.lexed = one_lexed text x.lexed y.lexed (Err x.told) (Err y.told) x.read y.read in
     let p = fault_is f x.token x.told x.is_told in
@@ -66,12 +67,12 @@ one_cut text at kind at' kind' x y =
     let b : kind ≡ kind' = cc in
     (a, b)
 
-pub never_cut : {B : Type 0} (text : List ℕ) (at : ℕ) (kind : LexKind) (t : Tree) → IsVerdict text (Refused at kind) → IsFile text t → B
+pub never_cut : {B : Type 0} {language : Language} (text : List ℕ) (at : ℕ) (kind : LexKind) (t : Tree) → IsVerdict text (Refused at kind) → IsFile language text t → B
 never_cut text at kind t x y =
     let e : Refused at kind ≡ Cut y.lexed.tokens = one_verdict text (Cut y.lexed.tokens) (Refused at kind) y.read.tokens x in
     absurd (cc)
 
-pub never_uncut : {B : Type 0} (text : List ℕ) (at : ℕ) (kind : LexKind) (at' : ℕ) (f : SyntaxFault) → IsVerdict text (Refused at kind) → IsNoFile text at' f → B
+pub never_uncut : {B : Type 0} {language : Language} (text : List ℕ) (at : ℕ) (kind : LexKind) (at' : ℕ) (f : SyntaxFault) → IsVerdict text (Refused at kind) → IsNoFile language text at' f → B
 never_uncut text at kind at' f x y =
     let e : Refused at kind ≡ Cut y.lexed.tokens = one_verdict text (Cut y.lexed.tokens) (Refused at kind) y.read.tokens x in
     absurd (cc)

@@ -1,6 +1,7 @@
 -- Files mean one interface at most, beside whatever attribute configuration file.
 use Rattle.std.proofs.Common.{◌≡◌, ◌∙◌, ℕ, true, List, [], ◌∷◌, ◌++◌, Option, Some, None, refl, sym, ap}
 use Rattle.std.proofs.Props.{props}
+use Rattle.idl_grammar.specs.Files.{Idl}
 use mathlib.Core.HLevel.{is_prop→PathP}
 use Rattle.nd_base.specs.Text.{is_identifier}
 use Rattle.nd_types.specs.declared.interface.Interface.{Interface}
@@ -38,7 +39,7 @@ same_meant i j e =
       laid_out = is_prop→PathP (λ l. layouts l ≡ layouts_of (e l).types) (λ l. layouts_once (e l).types (layouts l)) i.laid_out j.laid_out k;
     }
 
-pub one_interface : (k : List ℕ → Option (List ℕ)) (idl text : List ℕ) (acf : Option (List ℕ)) (i j : Interface) → Means (Some k) idl text acf i
+pub one_interface : (k : List ℕ → Option (List ℕ)) (idl : Idl) (text : List ℕ) (acf : Option (List ℕ)) (i j : Interface) → Means (Some k) idl text acf i
     → Means (Some k) idl text acf j → i ≡ j
 one_interface k idl text acf i j x y = same_meant i j (means_one k idl text acf i j x y)
 
@@ -63,7 +64,7 @@ keeps_beside : (w : World) (f : Acf) → breaches w ≡ [] → acf_breaches w (S
 keeps_beside w f a b = ap (λ bs. first_of w (bs ++ acf_breaches w (Some f))) a ∙ ap (first_of w) b
 
 -- what files mean beside one they mean without it
-pub means_without : (held : Option (List ℕ → Option (List ℕ))) (idl text : List ℕ) (acf : Option (List ℕ)) (i : Interface) → Means held idl text acf i
+pub means_without : (held : Option (List ℕ → Option (List ℕ))) (idl : Idl) (text : List ℕ) (acf : Option (List ℕ)) (i : Interface) → Means held idl text acf i
     → Means held idl text None i
 means_without held idl text acf i m = record {
   state = m.state;
@@ -74,7 +75,7 @@ means_without held idl text acf i m = record {
 }
 
 -- and what they mean without one they mean beside each that keeps the rule on it
-pub means_with : (held : Option (List ℕ → Option (List ℕ))) (idl text name : List ℕ) (i : Interface) → (m : Means held idl text None i) → (f : AcfFile)
+pub means_with : (held : Option (List ℕ → Option (List ℕ))) (idl : Idl) (text name : List ℕ) (i : Interface) → (m : Means held idl text None i) → (f : AcfFile)
     → IsLoadedAcf held name f → acf_breaches (resolved_world m.state) (Some f.tree) ≡ [] → Means held idl text (Some name) i
 means_with held idl text name i m f loaded kept = record {
   state = m.state;
@@ -84,7 +85,7 @@ means_with held idl text name i m f loaded kept = record {
   meaning = record { keeps = keeps_beside (resolved_world m.state) f.tree (none_broken (resolved_world m.state) _ m.meaning.keeps) kept; means = m.meaning.means };
 }
 
-pub one_beside_any : (k : List ℕ → Option (List ℕ)) (idl text : List ℕ) (acf other : Option (List ℕ)) (i j : Interface) → Means (Some k) idl text acf i
+pub one_beside_any : (k : List ℕ → Option (List ℕ)) (idl : Idl) (text : List ℕ) (acf other : Option (List ℕ)) (i j : Interface) → Means (Some k) idl text acf i
     → Means (Some k) idl text other j → i ≡ j
 one_beside_any k idl text acf other i j x y =
     one_interface k idl text None i j (means_without (Some k) idl text acf i x) (means_without (Some k) idl text other j y)

@@ -1,6 +1,8 @@
 -- Files mean one interface or are refused for one fault, never both, and neither where a file that is due is missing.
 use Rattle.std.proofs.Common.{◌≡◌, ◌∙◌, ℕ, List, [], ◌∷◌, length, Option, Some, None, refl, sym, ap, subst, inl, inr}
 use Rattle.std.proofs.lemmas.Option.{same_Some}
+use Rattle.idl_grammar.specs.declared.language.Language.{Language}
+use Rattle.idl_grammar.specs.Files.{Idl}
 use Rattle.nd_base.specs.declared.octets.Place.{Place}
 use Rattle.nd_base.specs.Over.{IsContent, IsMissing}
 use Rattle.nd_types.specs.declared.interface.Interface.{Interface}
@@ -75,11 +77,11 @@ sure_told s (names.Syntax n at x) b = tt
 
 -- ## The main file
 
-data MainFault (text : List ℕ) : NameFault → Type 0 where
-  main_cut : (n at : ℕ) (kind : LexKind) → n ≡ 0 → IsVerdict text (Refused at kind) → MainFault text (names.Lex n (lexical.At at kind))
-  main_no_file : (n at : ℕ) (f : SyntaxFault) → n ≡ 0 → IsNoFile text at f → MainFault text (names.Syntax n at f)
+data MainFault (language : Language) (text : List ℕ) : NameFault → Type 0 where
+  main_cut : (n at : ℕ) (kind : LexKind) → n ≡ 0 → IsVerdict text (Refused at kind) → MainFault language text (names.Lex n (lexical.At at kind))
+  main_no_file : (n at : ℕ) (f : SyntaxFault) → n ≡ 0 → IsNoFile language text at f → MainFault language text (names.Syntax n at f)
 
-main_view : (text : List ℕ) (f : NameFault) → IsMainFault text f → IsSureFault f → MainFault text f
+main_view : {language : Language} (text : List ℕ) (f : NameFault) → IsMainFault language text f → IsSureFault f → MainFault language text f
 main_view text (names.Lex n (lexical.At at kind)) (z, x) p = main_cut n at kind z x
 main_view text (names.Syntax n at f) (z, x) p = main_no_file n at f z x
 main_view text (names.Lex n lexical.Memory) x p = absurd p
@@ -92,7 +94,7 @@ main_view text (names.ImportCycle a) x p = absurd x
 main_view text (names.TooMany a) x p = absurd x
 main_view text (names.Absent n) x p = absurd x
 
-one_main : (text : List ℕ) (f g : NameFault) → MainFault text f → MainFault text g → f ≡ g
+one_main : {language : Language} (text : List ℕ) (f g : NameFault) → MainFault language text f → MainFault language text g → f ≡ g
 one_main text f g (main_cut n at kind z x) (main_cut m at' kind' z' y) =
     let r = one_cut text at kind at' kind' x y in
     same (z ∙ sym z') r.0 r.1
@@ -108,25 +110,25 @@ one_main text f g (main_no_file n at s z x) (main_no_file m at' s' z' y) =
     same : n ≡ m → at ≡ at' → s ≡ s' → names.Syntax n at s ≡ names.Syntax m at' s'
     same a b c = λ i. names.Syntax (a i) (b i) (c i)
 
-main_or_file : {B : Type 0} (text : List ℕ) (f : NameFault) (t : Tree) → MainFault text f → IsFile text t → B
+main_or_file : {B : Type 0} {language : Language} (text : List ℕ) (f : NameFault) (t : Tree) → MainFault language text f → IsFile language text t → B
 main_or_file text f t (main_cut n at kind z x) file = never_cut text at kind t x file
 main_or_file text f t (main_no_file n at s z x) file = never_file text at s t x file
 
 -- ## How the files come out
 
-module _ (k : List ℕ → Option (List ℕ)) (idl text : List ℕ) where
+module _ (k : List ℕ → Option (List ℕ)) (idl : Idl) (text : List ℕ) where
   -- the main file is at fault, or the walk ends
   data Comes : Ending → Type 0 where
-    at_main : (f : NameFault) → IsMainFault text f → Comes (Stopped (main_file idl text) f)
-    by_walk : (t : Tree) (e : Ending) → IsFile text t → Walk (Some k) (start (main_file idl text)) (all_of 0 t) e → Comes e
+    at_main : (f : NameFault) → IsMainFault idl.language text f → Comes (Stopped (main_file idl text) f)
+    by_walk : (t : Tree) (e : Ending) → IsFile idl.language text t → Walk (Some k) (start idl.language (main_file idl text)) (all_of 0 t) e → Comes e
 
   one_coming : (e e' : Ending) → Comes e → Comes e' → IsSure e → IsSure e' → e ≡ e'
   one_coming e e' (at_main f x) (at_main g y) p q = ap (Stopped (main_file idl text)) (one_main text f g (main_view text f x p) (main_view text g y q))
   one_coming e e' (at_main f x) (by_walk t _ file w) p q = main_or_file text f t (main_view text f x p) file
   one_coming e e' (by_walk t _ file w) (at_main f x) p q = main_or_file text f t (main_view text f x q) file
   one_coming e e' (by_walk t _ file w) (by_walk u _ other v) p q =
-      one_end k (start (main_file idl text)) (all_of 0 t) e e' w
-      (subst (λ z. Walk (Some k) (start (main_file idl text)) (all_of 0 z) e') (sym (one_tree text t u file other)) v)
+      one_end k (start idl.language (main_file idl text)) (all_of 0 t) e e' w
+      (subst (λ z. Walk (Some k) (start idl.language (main_file idl text)) (all_of 0 z) e') (sym (one_tree idl.language text t u file other)) v)
       (sure_kept e p) (sure_kept e' q)
 
   -- what an ending says of a fault
@@ -140,7 +142,7 @@ module _ (k : List ℕ → Option (List ℕ)) (idl text : List ℕ) where
     sure : IsSure end
     says : Says end sources f
 
-  undefined : (t : Tree) (sources : List Source) (f : NameFault) → IsFile text t → IsUndefinedFault (Some k) (main_file idl text) t sources f → Faulty sources f
+  undefined : (t : Tree) (sources : List Source) (f : NameFault) → IsFile idl.language text t → IsUndefinedFault idl.language (Some k) (main_file idl text) t sources f → Faulty sources f
   undefined t sources (names.Unknown place) file u =
       record { end = Done u.state; comes = by_walk t (Done u.state) file u.walk; sure = tt; says = (sym u.sources_are, (place, refl, u.first)) }
   undefined t sources names.Memory file u = absurd u
@@ -201,7 +203,7 @@ module _ (k : List ℕ → Option (List ℕ)) (idl text : List ℕ) where
 
   absent_fault : (file : List ℕ) → IsDueImport (Some k) idl text file → IsMissing (Some k) file → (sources : List Source) × (n : ℕ) × IsNameFault (Some k) idl text sources (names.Absent n)
   absent_fault file due missing =
-      let w = due_absent (start (main_file idl text)) (all_of 0 due.tree) (and_source due.sources file []) (length due.sources) due.sources file refl refl missing due.comes in
+      let w = due_absent (start idl.language (main_file idl text)) (all_of 0 due.tree) (and_source due.sources file []) (length due.sources) due.sources file refl refl missing due.comes in
       (and_source due.sources file [], length due.sources, inr (due.tree, due.parsed, inl w))
 
   -- ## The attribute configuration file

@@ -111,9 +111,9 @@ module _ (k : List ℕ → Option (List ℕ)) where
   one_end st ds g h (uncut s place name rest text at kind due c v) (uncut s' place' name' rest' text' at' kind' due' c' v') x y = let same : text ≡ text' = one_content name text text' c c' in let r =
       one_cut text at kind at' kind' v (subst (λ z. IsVerdict z (Refused at' kind')) (sym same) v') in one_uncut_end st.sources name text text' at at' kind kind' same r.0 r.1
   one_end st ds g h (uncut s place name rest text at kind due c v) (no_file s' place' name' rest' text' at' f' due' c' v') x y = let same : text ≡ text' =
-      one_content name text text' c c' in never_uncut text at kind at' f' v (subst (λ z. IsNoFile z at' f') (sym same) v')
+      one_content name text text' c c' in never_uncut text at kind at' f' v (subst (λ z. IsNoFile st.language z at' f') (sym same) v')
   one_end st ds g h (uncut s place name rest text at kind due c v) (enters s' place' name' rest' e' text' t' due' c' v' d') x y = let same : text ≡ text' =
-      one_content name text text' c c' in never_cut text at kind t' v (subst (λ z. IsFile z t') (sym same) v')
+      one_content name text text' c c' in never_cut text at kind t' v (subst (λ z. IsFile st.language z t') (sym same) v')
   one_end st ds g h (no_file s place name rest text at f due c v) (cycle s' place' name' rest' n' a' b') x y = none_some _ n' due.new a'
   one_end st ds g h (no_file s place name rest text at f due c v) (again s' place' name' rest' e' n' a' b' d') x y = none_some _ n' due.new a'
   one_end st ds g h (no_file s place name rest text at f due c v) (too_many s' place' name' rest' a' b') x y = absurd (omega (arith, b', due.room))
@@ -121,9 +121,9 @@ module _ (k : List ℕ → Option (List ℕ)) where
   one_end st ds g h (no_file s place name rest text at f due c v) (uncut s' place' name' rest' text' at' kind' due' c' v') x y = let same : text ≡ text' =
       one_content name text text' c c' in never_uncut text at' kind' at f (subst (λ z. IsVerdict z (Refused at' kind')) (sym same) v') v
   one_end st ds g h (no_file s place name rest text at f due c v) (no_file s' place' name' rest' text' at' f' due' c' v') x y = let same : text ≡ text' = one_content name text text' c c' in let r =
-      one_no_file text at f at' f' v (subst (λ z. IsNoFile z at' f') (sym same) v') in one_no_file_end st.sources name text text' at at' f f' same r.0 r.1
+      one_no_file text at f at' f' v (subst (λ z. IsNoFile st.language z at' f') (sym same) v') in one_no_file_end st.sources name text text' at at' f f' same r.0 r.1
   one_end st ds g h (no_file s place name rest text at f due c v) (enters s' place' name' rest' e' text' t' due' c' v' d') x y = let same : text ≡ text' =
-      one_content name text text' c c' in never_file text at f t' v (subst (λ z. IsFile z t') (sym same) v')
+      one_content name text text' c c' in never_file text at f t' v (subst (λ z. IsFile st.language z t') (sym same) v')
   one_end st ds g h (enters s place name rest e text t due c v d) (cycle s' place' name' rest' n' a' b') x y = none_some _ n' due.new a'
   one_end st ds g h (enters s place name rest e text t due c v d) (again s' place' name' rest' e' n' a' b' d') x y = none_some _ n' due.new a'
   one_end st ds g h (enters s place name rest e text t due c v d) (too_many s' place' name' rest' a' b') x y = absurd (omega (arith, b', due.room))
@@ -131,7 +131,7 @@ module _ (k : List ℕ → Option (List ℕ)) where
   one_end st ds g h (enters s place name rest e text t due c v d) (uncut s' place' name' rest' text' at' kind' due' c' v') x y = let same : text ≡ text' =
       one_content name text text' c c' in never_cut text at' kind' t (subst (λ z. IsVerdict z (Refused at' kind')) (sym same) v') v
   one_end st ds g h (enters s place name rest e text t due c v d) (no_file s' place' name' rest' text' at' f' due' c' v') x y = let same : text ≡ text' =
-      one_content name text text' c c' in never_file text at' f' t (subst (λ z. IsNoFile z at' f') (sym same) v') v
+      one_content name text text' c c' in never_file text at' f' t (subst (λ z. IsNoFile st.language z at' f') (sym same) v') v
   one_end st ds g h (enters s place name rest e text t due c v d) (enters s' place' name' rest' e' text' t' due' c' v' d') x y = let same : text ≡ text' =
       one_content name text text' c c' in let tree : t ≡ t' =
-      one_tree text t t' v (subst (λ z. IsFile z t') (sym same) v') in one_end _ _ g h d (same_walk st place name rest h text text' t t' same tree d') x y
+      one_tree st.language text t t' v (subst (λ z. IsFile st.language z t') (sym same) v') in one_end _ _ g h d (same_walk st place name rest h text text' t t' same tree d') x y

@@ -38,7 +38,7 @@ pub record Follows (f g : FilesOver) : Type 0 where
   pub absences_later : f.absences.before ≤ f.absences.now
 
 -- what is compiled says nothing of counts
-compiled_as : (f g : FilesOver) → g.held ≡ f.held → g.asked ≡ f.asked → g.asked_now ≡ f.asked_now → (idl : List ℕ) (acf : Option (List ℕ)) (i : Interface)
+compiled_as : (f g : FilesOver) → g.held ≡ f.held → g.asked ≡ f.asked → g.asked_now ≡ f.asked_now → (idl : Idl) (acf : Option (List ℕ)) (i : Interface)
     → IsCompiled g idl acf i → IsCompiled f idl acf i
 compiled_as f g held asked now idl acf i c =
     let at : List (List ℕ) → List (List ℕ) → Contents → FilesOver = λ a n h. record { held = h; asked = a; asked_now = n; absences = f.absences; faults = f.faults } in

@@ -1,5 +1,6 @@
 -- Each text is a file of IDL, or has a first fault.
 use Rattle.std.proofs.Common.{◌≤◌, ℕ, List, refl, arith, Result, Ok, Err}
+use Rattle.idl_grammar.specs.declared.language.Language.{Language}
 use Rattle.idl_grammar.specs.Text.{Text, Depth, Ban, lexemes}
 use Rattle.idl_grammar.specs.ReadPhrases.{Fault, Syntax, Passes}
 use Rattle.idl_grammar.specs.Gives.{IsText}
@@ -18,11 +19,11 @@ use Rattle.command_compile.specs.Read.{HasAnswer, IsReadAs, AsFile, AsNoFile, As
 pub each_file : (t : Text) → IsText t → HasAnswer grammar.file t
 each_file t real = record { answer = file_answer 64 129 t; right = file_answered 64 129 (omega arith) (omega arith) t real }
 
-module _ (text : List ℕ) (tokens : List Token) (are : AreTokens text tokens) where
+module _ (language : Language) (text : List ℕ) (tokens : List Token) (are : AreTokens text tokens) where
   abbrev lexed : Lexed
   lexed = record { text = text; tokens = tokens }
 
-  read_as : (answer : Result Tree Fault) → Answers grammar.file (lexemes lexed) answer → IsReadAs text
+  read_as : (answer : Result Tree Fault) → Answers grammar.file (lexemes language lexed) answer → IsReadAs language text
   read_as (Ok t) h = AsFile t (record { lexed = lexed; read = record { text_is = refl; tokens = are; answered = h } })
   read_as (Err (Syntax k)) h = AsNoFile (place_of lexed k) (syntax.Syntax k) (record {
     lexed = lexed;
@@ -49,12 +50,12 @@ module _ (text : List ℕ) (tokens : List Token) (are : AreTokens text tokens) w
     octet = refl;
   })
 
-  tokens_read : IsReadAs text
-  tokens_read = let a = each_file (lexemes lexed) (lexemes_real lexed) in read_as a.answer a.right
+  tokens_read : IsReadAs language text
+  tokens_read = let a = each_file (lexemes language lexed) (lexemes_real language lexed) in read_as a.answer a.right
 
-by_verdict : (text : List ℕ) (v : Verdict) → IsVerdict text v → IsReadAs text
-by_verdict text (Cut tokens) is = tokens_read text tokens is
-by_verdict text (Refused at kind) is = AsUncut at kind is
+by_verdict : (language : Language) (text : List ℕ) (v : Verdict) → IsVerdict text v → IsReadAs language text
+by_verdict language text (Cut tokens) is = tokens_read language text tokens is
+by_verdict language text (Refused at kind) is = AsUncut at kind is
 
-pub each_read : (text : List ℕ) → IsReadAs text
-each_read text = let v = each_text text in by_verdict text v.verdict v.right
+pub each_read : (language : Language) (text : List ℕ) → IsReadAs language text
+each_read language text = let v = each_text text in by_verdict language text v.verdict v.right

@@ -4,6 +4,8 @@ use Rattle.std.proofs.Common.{◌≡◌, ◌∙◌, ℕ, Bool, true, false, ◌&
 use Rattle.std.specs.List.{list_all}
 use Rattle.std.specs.Cmp.Derive.{both_true}
 use Rattle.std.proofs.lemmas.Bool.{and_parts as both}
+use Rattle.idl_grammar.specs.Files.{Idl}
+use Rattle.idl_grammar.specs.declared.language.Language.{Language}
 use Rattle.nd_lemmas.proofs.Booleans.{clash}
 use Rattle.nd_base.specs.declared.octets.Place.{Place}
 use Rattle.nd_base.specs.Over.{IsContent, IsMissing, loaded}
@@ -80,7 +82,7 @@ step_real (names.Failed n) h = absurd h
 step_real (names.Lex n f) h = absurd h
 step_real (names.Syntax n at f) h = absurd h
 
-syntax_real : (text : List ℕ) (n at : ℕ) (f : SyntaxFault) → IsNoFile text at f → IsReal (names.Syntax n at f)
+syntax_real : {language : Language} (text : List ℕ) (n at : ℕ) (f : SyntaxFault) → IsNoFile language text at f → IsReal (names.Syntax n at f)
 syntax_real text n at syntax.Memory h = h.is_told
 syntax_real text n at (syntax.Syntax k) h = tt
 syntax_real text n at (syntax.Deep k) h = tt
@@ -103,7 +105,7 @@ walk_real held (walk.short s rest) = tt
 walk_real held (walk.short_in_load s place name rest due) = tt
 walk_real held (walk.short_after_load s place name rest text due content) = tt
 
-undefined_real : (held : Option (List ℕ → Option (List ℕ))) (main : List Source) (t : Tree) (sources : List Source) (f : NameFault) → IsUndefinedFault held main t sources f → IsReal f
+undefined_real : {language : Language} (held : Option (List ℕ → Option (List ℕ))) (main : List Source) (t : Tree) (sources : List Source) (f : NameFault) → IsUndefinedFault language held main t sources f → IsReal f
 undefined_real held main t sources (names.Unknown p) u = tt
 undefined_real held main t sources names.Memory u = absurd u
 undefined_real held main t sources (names.Twice p q) u = absurd u
@@ -115,7 +117,7 @@ undefined_real held main t sources (names.Failed n) u = absurd u
 undefined_real held main t sources (names.Lex n f) u = absurd u
 undefined_real held main t sources (names.Syntax n at f) u = absurd u
 
-refused_real : (held : Option (List ℕ → Option (List ℕ))) (main : List Source) (t : Tree) (sources : List Source) (f : NameFault) → IsRefused held main t sources f → IsReal f
+refused_real : {language : Language} (held : Option (List ℕ → Option (List ℕ))) (main : List Source) (t : Tree) (sources : List Source) (f : NameFault) → IsRefused language held main t sources f → IsReal f
 refused_real held main t sources f (inl w) = walk_real held w
 refused_real held main t sources f (inr u) = undefined_real held main t sources f u
 
@@ -192,7 +194,7 @@ front_empty (x ∷ xs) ys e = absurd (cc)
 
 -- ## Each main file
 
-module _ (held : Option (List ℕ → Option (List ℕ))) (idl text : List ℕ) (acf : Option (List ℕ)) where
+module _ (held : Option (List ℕ → Option (List ℕ))) (idl : Idl) (text : List ℕ) (acf : Option (List ℕ)) where
   at_place : (sources : List Source) (f : NameFault) (p : Place) (why : IdlReason) → IsNameFault held idl text sources f → reported_fault sources f ≡ reported_at sources p why
       → HasResult held idl text acf
   at_place sources f p why is e =
@@ -266,25 +268,25 @@ module _ (held : Option (List ℕ → Option (List ℕ))) (idl text : List ℕ) 
         by_rules_first state resolved None (subst (λ a. IsBeside held a None) (sym named) tt) (first_of_all (resolved_world state) None) refl
     by_acf_named (Some name) named = by_held name named (each_held held name)
 
-  by_names_of : (t : Tree) → IsFile text t → Comes held (main_file idl text) t → HasResult held idl text acf
+  by_names_of : (t : Tree) → IsFile idl.language text t → Comes idl.language held (main_file idl text) t → HasResult held idl text acf
   by_names_of t file (ToNames s r) = by_acf_named s (record { tree = t; parsed = file; names = r }) acf refl
   by_names_of t file (ToFault sources f decided is) =
       by_fault sources f decided (refused_real held (main_file idl text) t sources f is) (inr (t, file, is))
 
-  by_read : IsReadAs text → HasResult held idl text acf
-  by_read (AsFile t file) = by_names_of t file (each_main held (main_file idl text) t)
+  by_read : IsReadAs idl.language text → HasResult held idl text acf
+  by_read (AsFile t file) = by_names_of t file (each_main held idl.language (main_file idl text) t)
   by_read (AsNoFile at f is) = no_file f is
     where
-      no_file : (f' : SyntaxFault) → IsNoFile text at f' → HasResult held idl text acf
+      no_file : (f' : SyntaxFault) → IsNoFile idl.language text at f' → HasResult held idl text acf
       no_file f' h = by_fault (main_file idl text) (names.Syntax 0 at f') refl (syntax_real text 0 at f' h) (inl (refl, (refl, h)))
   by_read (AsUncut at kind is) = by_fault (main_file idl text) (names.Lex 0 (lexical.At at kind)) refl tt (inl (refl, (refl, is)))
 
   pub each_result : HasResult held idl text acf
-  each_result = by_read (each_read text)
+  each_result = by_read (each_read idl.language text)
 
 -- ## One alone
 
-pub one_result : (k : List ℕ → Option (List ℕ)) (idl text : List ℕ) (acf : Option (List ℕ)) (a b : HasResult (Some k) idl text acf) → result_of a ≡ result_of b
+pub one_result : (k : List ℕ → Option (List ℕ)) (idl : Idl) (text : List ℕ) (acf : Option (List ℕ)) (a b : HasResult (Some k) idl text acf) → result_of a ≡ result_of b
 one_result k idl text acf (Meaning i x) (Meaning j y) = ap Ok (one_interface k idl text acf i j x y)
 one_result k idl text acf (Meaning i x) (Fault file line column why y) = never_both k idl text acf i (BadIdl file line column why) tt x y
 one_result k idl text acf (Meaning i x) (Missing file due missing) = absent_or_means k idl text acf file i due missing x

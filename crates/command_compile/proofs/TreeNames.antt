@@ -2,6 +2,7 @@
 use Rattle.std.proofs.Common.{◌≡◌, ℕ, ◌+◌, Bool, true, false, ◌&&◌, List, [], ◌∷◌, length, refl, sym, ap, subst, ◌∙◌}
 use Rattle.std.specs.List.{list_all}
 use Rattle.std.specs.Cmp.Derive.{both_true}
+use Rattle.idl_grammar.specs.declared.language.Language.{Language}
 use Rattle.nd_base.specs.Text.{is_identifier}
 use Rattle.idl_grammar.specs.Text.{Text, Lifted, many, ◌⊳◌, lexemes, IsFormed}
 use Rattle.idl_grammar.specs.Answers.{strict}
@@ -166,8 +167,8 @@ module _ (x : Text) (formed : IsFormed x) (lifted : Lifted) where
       both_true (name_is false t.name ph.2.0 ph.2.2.0 ph.2.2.1) (exports_are 1 t.exports inner.0 bracketed.2.0 inner.2)
 
 -- a file of the language has identifiers for names
-pub file_named : (text : List ℕ) (t : Tree) → IsFile text t → tree_named t ≡ true
-file_named text t f =
+pub file_named : {language : Language} (text : List ℕ) (t : Tree) → IsFile language text t → tree_named t ≡ true
+file_named {language} text t f =
     let l = f.lexed in
     let formed : AreFormed l = tokens_formed l.text l.tokens (subst (λ (s : List ℕ). AreTokens s l.tokens) (sym f.read.text_is) f.read.tokens) in
-    tree_is (lexemes l) (lexemes_formed l formed) strict t 0 (length (lexemes l)) f.read.answered.derived
+    tree_is (lexemes language l) (lexemes_formed language l formed) strict t 0 (length (lexemes language l)) f.read.answered.derived

@@ -1,6 +1,8 @@
 -- What the files of a compilation mean, and for which causes they are refused.
 use Rattle.std.specs.Prelude.{◌≡◌, ◌⊎◌, ℕ, true, false, ◌==◌, List, [], ◌∷◌, length, drop, take_while, Option, Some, None, Result, Ok, Err}
 use Rattle.std.specs.Prelude.{option_map, ⊤}
+use Rattle.idl_grammar.specs.declared.language.Language.{Language}
+use Rattle.idl_grammar.specs.Files.{Idl}
 use Rattle.nd_base.specs.declared.octets.Place.{Place}
 use Rattle.nd_base.specs.Over.{IsContent}
 use Rattle.nd_base.specs.Text.{is_word_octet, position_of}
@@ -26,7 +28,7 @@ use Rattle.command_refusals.specs.declared.refusal.IdlReason.TheVariants as reas
 use Rattle.command_refusals.specs.declared.refusal.Refusal.{Refusal}
 use Rattle.command_refusals.specs.declared.refusal.Refusal.TheVariants.{Memory, Absent, FileFailed, BadIdl}
 
--- `held` tells the contents of files, `idl` is the name of the main file and `text` its text, and `acf` is the name of the attribute
+-- `held` tells the contents of files, `idl` is the main file as it is named and `text` its text, and `acf` is the name of the attribute
 -- configuration file, if one is named.
 
 -- ## The attribute configuration file
@@ -81,21 +83,21 @@ tree_beside beside = option_map (λ f. f.tree) beside
 -- ### What the files mean
 
 -- the main file alone
-abbrev pub main_file : List ℕ → List ℕ → List Source
-main_file idl text = source idl text ∷ []
+abbrev pub main_file : Idl → List ℕ → List Source
+main_file idl text = source idl.name text ∷ []
 
 -- files that are resolved, as the rules speak of them
 abbrev pub resolved_world : State → World
 resolved_world s = record { files = s.ended; known = s.known }
 
 -- The text is a file of the language, and its names are resolved, with those of the files that it imports.
-pub record AreResolved (held : Option (List ℕ → Option (List ℕ))) (idl text : List ℕ) (state : State) : Type 0 where
+pub record AreResolved (held : Option (List ℕ → Option (List ℕ))) (idl : Idl) (text : List ℕ) (state : State) : Type 0 where
   pub tree : Tree
-  pub parsed : IsFile text tree
-  pub names : IsResolved held (main_file idl text) tree state
+  pub parsed : IsFile idl.language text tree
+  pub names : IsResolved idl.language held (main_file idl text) tree state
 
 -- The names are resolved, the attribute configuration file is read, no rule is broken, and the files mean this interface.
-pub record Means (held : Option (List ℕ → Option (List ℕ))) (idl text : List ℕ) (acf : Option (List ℕ)) (i : Interface) : Type 0 where
+pub record Means (held : Option (List ℕ → Option (List ℕ))) (idl : Idl) (text : List ℕ) (acf : Option (List ℕ)) (i : Interface) : Type 0 where
   pub state : State
   pub resolved : AreResolved held idl text state
   pub beside : Option AcfFile
@@ -105,20 +107,20 @@ pub record Means (held : Option (List ℕ → Option (List ℕ))) (idl text : Li
 -- ### Faults
 
 -- The main file cannot be cut into tokens, or is no file of the language. (Running out of memory needs no cause.)
-abbrev pub IsMainFault : List ℕ → NameFault → Type 0
-IsMainFault text names.Memory = ⊤
-IsMainFault text (names.Lex file f) = (file ≡ 0) × IsFault text f
-IsMainFault text (names.Syntax file at f) = (file ≡ 0) × IsNoFile text at f
-IsMainFault text _ = ⊥
+abbrev pub IsMainFault : Language → List ℕ → NameFault → Type 0
+IsMainFault language text names.Memory = ⊤
+IsMainFault language text (names.Lex file f) = (file ≡ 0) × IsFault text f
+IsMainFault language text (names.Syntax file at f) = (file ≡ 0) × IsNoFile language text at f
+IsMainFault language text _ = ⊥
 
 -- the main file has a fault, or the walk through the files has one
-abbrev pub IsNameFault : Option (List ℕ → Option (List ℕ)) → List ℕ → List ℕ → List Source → NameFault → Type 0
+abbrev pub IsNameFault : Option (List ℕ → Option (List ℕ)) → Idl → List ℕ → List Source → NameFault → Type 0
 IsNameFault held idl text sources f =
-    ((sources ≡ main_file idl text) × IsMainFault text f)
-    ⊎ ((tree : Tree) × IsFile text tree × IsRefused held (main_file idl text) tree sources f)
+    ((sources ≡ main_file idl text) × IsMainFault idl.language text f)
+    ⊎ ((tree : Tree) × IsFile idl.language text tree × IsRefused idl.language held (main_file idl text) tree sources f)
 
 -- The names are resolved, the attribute configuration file is read, and this is the rule that is reported, at its place.
-pub record IsBroken (held : Option (List ℕ → Option (List ℕ))) (idl text : List ℕ) (acf : Option (List ℕ)) (sources : List Source)
+pub record IsBroken (held : Option (List ℕ → Option (List ℕ))) (idl : Idl) (text : List ℕ) (acf : Option (List ℕ)) (sources : List Source)
     (beside : Option AcfFile) (rule : ℕ) (place : Place) : Type 0 where
   pub state : State
   pub resolved : AreResolved held idl text state
@@ -204,7 +206,7 @@ IsAcfFault text at (reason.Banned word) = ((token : ℕ) × IsNoAcf text at (syn
 IsAcfFault text at _ = ⊥
 
 -- The names are resolved, and the attribute configuration file of this name was loaded. It has this text, and a fault at this octet.
-pub record IsBadAcf (held : Option (List ℕ → Option (List ℕ))) (idl text : List ℕ) (acf : Option (List ℕ)) (name body : List ℕ) (at : ℕ)
+pub record IsBadAcf (held : Option (List ℕ → Option (List ℕ))) (idl : Idl) (text : List ℕ) (acf : Option (List ℕ)) (name body : List ℕ) (at : ℕ)
     (why : IdlReason) : Type 0 where
   pub state : State
   pub resolved : AreResolved held idl text state
@@ -216,7 +218,7 @@ pub record IsBadAcf (held : Option (List ℕ → Option (List ℕ))) (idl text :
 
 -- The files are refused in this way: for the first fault of their names; after that for the first fault of the attribute configuration file, which is
 -- told by its name and by line and column of its text; and after that for the first rule that is broken.
-pub data IsIdlFault (held : Option (List ℕ → Option (List ℕ))) (idl text : List ℕ) (acf : Option (List ℕ)) (r : Refusal) : Type 0 where
+pub data IsIdlFault (held : Option (List ℕ → Option (List ℕ))) (idl : Idl) (text : List ℕ) (acf : Option (List ℕ)) (r : Refusal) : Type 0 where
   by_names : (sources : List Source) (f : NameFault) → IsNameFault held idl text sources f → r ≡ reported_fault sources f
       → IsIdlFault held idl text acf r
   by_acf : (name body : List ℕ) (at : ℕ) (why : IdlReason) → IsBadAcf held idl text acf name body at why
@@ -228,23 +230,23 @@ pub data IsIdlFault (held : Option (List ℕ → Option (List ℕ))) (idl text :
 -- ### Files that are due
 
 -- The load of an import is due: the walk comes to it, so that it ends there if the load fails.
-pub record IsDueImport (held : Option (List ℕ → Option (List ℕ))) (idl text file : List ℕ) : Type 0 where
+pub record IsDueImport (held : Option (List ℕ → Option (List ℕ))) (idl : Idl) (text file : List ℕ) : Type 0 where
   pub tree : Tree
-  pub parsed : IsFile text tree
+  pub parsed : IsFile idl.language text tree
   pub sources : List Source
-  pub comes : Walk held (start (main_file idl text)) (all_of 0 tree) (Stopped (and_source sources file []) (names.Failed (length sources)))
+  pub comes : Walk held (start idl.language (main_file idl text)) (all_of 0 tree) (Stopped (and_source sources file []) (names.Failed (length sources)))
 
 -- The load of the attribute configuration file is due: it is named, and all names are resolved. A file that was loaded already under this name, as
 -- one of IDL, is loaded again.
-pub record IsDueAcf (held : Option (List ℕ → Option (List ℕ))) (idl text : List ℕ) (acf : Option (List ℕ)) (file : List ℕ) : Type 0 where
+pub record IsDueAcf (held : Option (List ℕ → Option (List ℕ))) (idl : Idl) (text : List ℕ) (acf : Option (List ℕ)) (file : List ℕ) : Type 0 where
   pub state : State
   pub resolved : AreResolved held idl text state
   pub named : acf ≡ Some file
 
 -- the load of a file is due after that of the main file: of an import, or of the attribute configuration file
-abbrev pub IsDueAfter : Option (List ℕ → Option (List ℕ)) → List ℕ → List ℕ → Option (List ℕ) → List ℕ → Type 0
+abbrev pub IsDueAfter : Option (List ℕ → Option (List ℕ)) → Idl → List ℕ → Option (List ℕ) → List ℕ → Type 0
 IsDueAfter held idl text acf file = IsDueImport held idl text file ⊎ IsDueAcf held idl text acf file
 
 -- the load of a file is due: of the main file, or of one after it
-abbrev pub IsDueFile : Option (List ℕ → Option (List ℕ)) → List ℕ → Option (List ℕ) → List ℕ → Type 0
-IsDueFile held idl acf file = (file ≡ idl) ⊎ ((text : List ℕ) × IsContent held idl text × IsDueAfter held idl text acf file)
+abbrev pub IsDueFile : Option (List ℕ → Option (List ℕ)) → Idl → Option (List ℕ) → List ℕ → Type 0
+IsDueFile held idl acf file = (file ≡ idl.name) ⊎ ((text : List ℕ) × IsContent held idl.name text × IsDueAfter held idl text acf file)

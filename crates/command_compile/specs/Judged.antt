@@ -1,5 +1,6 @@
 -- What files whose names are resolved come to by the rules, and what each main file comes to by all of it.
 use Rattle.std.specs.Prelude.{◌≡◌, ℕ, true, List, [], ◌∷◌, Option, Some, None}
+use Rattle.idl_grammar.specs.Files.{Idl}
 use Rattle.idl_lexer.specs.declared.tokens.LexKind.{LexKind}
 use Rattle.idl_lexer.specs.Verdict.{IsVerdict, Refused}
 use Rattle.idl_grammar.specs.Tree.{Tree}
@@ -27,19 +28,19 @@ pub data IsJudged (w : World) : Type 0 where
   Means : (m : Meant) → MeansLegal w m → IsJudged w
   Breaks : (b : Breach) → first_broken w ≡ Some b → IsJudged w
 
-abbrev pub main_file : List ℕ → List ℕ → List Source
-main_file name text = source name text ∷ []
+abbrev pub main_file : Idl → List ℕ → List Source
+main_file idl text = source idl.name text ∷ []
 
--- What a main file of this name and text comes to: an interface, which is legal; a broken rule; a fault of names or of an imported file, which is
+-- What a main file of this name, language and text comes to: an interface, which is legal; a broken rule; a fault of names or of an imported file, which is
 -- absent, say, but neither by running out of memory nor by a failed load; a fault of its own syntax; or one of its own tokens.
-pub data HasOutcome (held : Option (List ℕ → Option (List ℕ))) (name text : List ℕ) : Type 0 where
-  Interface : (t : Tree) → IsFile text t → (s : State) → IsResolved held (main_file name text) t s → (m : Meant) → MeansLegal (world s) m
+pub data HasOutcome (held : Option (List ℕ → Option (List ℕ))) (idl : Idl) (text : List ℕ) : Type 0 where
+  Interface : (t : Tree) → IsFile idl.language text t → (s : State) → IsResolved idl.language held (main_file idl text) t s → (m : Meant) → MeansLegal (world s) m
       → IsLegal m.types m.operations
-      → HasOutcome held name text
-  Broken : (t : Tree) → IsFile text t → (s : State) → IsResolved held (main_file name text) t s → (b : Breach) → first_broken (world s) ≡ Some b
-      → HasOutcome held name text
-  Unnamed : (t : Tree) → IsFile text t → (sources : List Source) (f : NameFault) → is_decided (Stopped sources f) ≡ true
-      → IsRefused held (main_file name text) t sources f
-      → HasOutcome held name text
-  NoFile : (at : ℕ) (f : SyntaxFault) → IsNoFile text at f → HasOutcome held name text
-  Uncut : (at : ℕ) (kind : LexKind) → IsVerdict text (Refused at kind) → HasOutcome held name text
+      → HasOutcome held idl text
+  Broken : (t : Tree) → IsFile idl.language text t → (s : State) → IsResolved idl.language held (main_file idl text) t s → (b : Breach) → first_broken (world s) ≡ Some b
+      → HasOutcome held idl text
+  Unnamed : (t : Tree) → IsFile idl.language text t → (sources : List Source) (f : NameFault) → is_decided (Stopped sources f) ≡ true
+      → IsRefused idl.language held (main_file idl text) t sources f
+      → HasOutcome held idl text
+  NoFile : (at : ℕ) (f : SyntaxFault) → IsNoFile idl.language text at f → HasOutcome held idl text
+  Uncut : (at : ℕ) (kind : LexKind) → IsVerdict text (Refused at kind) → HasOutcome held idl text

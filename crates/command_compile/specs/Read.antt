@@ -1,5 +1,6 @@
 -- What each text is read as, and each list of tokens.
 use Rattle.std.specs.Prelude.{ℕ, List, Result}
+use Rattle.idl_grammar.specs.declared.language.Language.{Language}
 use Rattle.idl_grammar.specs.Text.{Text, Phrase}
 use Rattle.idl_grammar.specs.ReadPhrases.{Fault}
 use Rattle.idl_lexer.specs.declared.tokens.LexKind.{LexKind}
@@ -14,8 +15,8 @@ pub record HasAnswer {A : Type 0} (p : A → Phrase) (t : Text) : Type 0 where
   pub answer : Result A Fault
   pub right : Answers p t answer
 
--- A text is a file of IDL, or has a first fault.
-pub data IsReadAs (text : List ℕ) : Type 0 where
-  AsFile : (t : Tree) → IsFile text t → IsReadAs text
-  AsNoFile : (at : ℕ) (f : SyntaxFault) → IsNoFile text at f → IsReadAs text
-  AsUncut : (at : ℕ) (kind : LexKind) → IsVerdict text (Refused at kind) → IsReadAs text
+-- A text is a file of a language, or has a first fault.
+pub data IsReadAs (language : Language) (text : List ℕ) : Type 0 where
+  AsFile : (t : Tree) → IsFile language text t → IsReadAs language text
+  AsNoFile : (at : ℕ) (f : SyntaxFault) → IsNoFile language text at f → IsReadAs language text
+  AsUncut : (at : ℕ) (kind : LexKind) → IsVerdict text (Refused at kind) → IsReadAs language text

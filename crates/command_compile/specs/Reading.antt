@@ -1,5 +1,6 @@
 -- What the steps of compiling answer: loads, the main file, the attribute configuration file, and the names asked for on the way.
 use Rattle.std.specs.Prelude.{◌≡◌, ℕ, ◌≤◌, ◌<◌, ◌⊎◌, List, [], ◌∷◌, ◌++◌, length, drop, Option, None, Some, ⊤}
+use Rattle.idl_grammar.specs.Files.{Idl}
 use Rattle.nd_base.specs.Over.{IsContent, FilesOver}
 use Rattle.nd_types.specs.declared.interface.Interface.{Interface}
 use Rattle.idl_lexer.specs.Verdict.{Lexed, place_of}
@@ -56,26 +57,26 @@ IsReportedUnread name text l (parser.Banned k) r =
 -- ## Names asked for
 
 -- What files mean whose names are resolved in this way.
-pub record IsJudged (held : Option (List ℕ → Option (List ℕ))) (idl text : List ℕ) (acf : Option (List ℕ)) (state : State)
+pub record IsJudged (held : Option (List ℕ → Option (List ℕ))) (idl : Idl) (text : List ℕ) (acf : Option (List ℕ)) (state : State)
     (i : Interface) : Type 0 where
   pub means : Means held idl text acf i
   pub state_is : means.state ≡ state
 
 -- The main file was loaded before; after it all that is due was asked for, and the files mean this interface.
-pub record MeansAfter (f : FilesOver) (idl text : List ℕ) (acf : Option (List ℕ)) (i : Interface) : Type 0 where
+pub record MeansAfter (f : FilesOver) (idl : Idl) (text : List ℕ) (acf : Option (List ℕ)) (i : Interface) : Type 0 where
   pub means : Means f.held idl text acf i
   pub rest : List (List ℕ)
-  pub rest_is : idl ∷ rest ≡ all_due means.state.sources acf
+  pub rest_is : idl.name ∷ rest ≡ all_due means.state.sources acf
   pub asked : f.asked_now ≡ f.asked ++ rest
 
 -- The main file was asked for before, and after it these, each when it was due.
-pub record AsksAfter (f : FilesOver) (idl : List ℕ) (acf : Option (List ℕ)) : Type 0 where
+pub record AsksAfter (f : FilesOver) (idl : Idl) (acf : Option (List ℕ)) : Type 0 where
   pub rest : List (List ℕ)
   pub asked : f.asked_now ≡ f.asked ++ rest
-  pub are_asked : AreAsked f.held idl acf (idl ∷ rest)
+  pub are_asked : AreAsked f.held idl acf (idl.name ∷ rest)
 
 -- The same of the imports of a main file with this text.
-pub record AsksOfImports (held : Option (List ℕ → Option (List ℕ))) (idl text : List ℕ) (asked asked_now : List (List ℕ)) : Type 0 where
+pub record AsksOfImports (held : Option (List ℕ → Option (List ℕ))) (idl : Idl) (text : List ℕ) (asked asked_now : List (List ℕ)) : Type 0 where
   pub rest : List (List ℕ)
   pub asked_is : asked_now ≡ asked ++ rest
-  pub due : IsContent held idl text → (acf : Option (List ℕ)) → AreAsked held idl acf (idl ∷ rest)
+  pub due : IsContent held idl.name text → (acf : Option (List ℕ)) → AreAsked held idl acf (idl.name ∷ rest)

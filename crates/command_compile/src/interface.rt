@@ -4,6 +4,7 @@ ghost use Rattle.std.specs.Prelude.{◌≡◌, ◌≤◌, ◌++◌, ℕ, List, O
 ghost use Rattle.nd_base.specs.Over.{IsContent, files_over};
 ghost use Rattle.acf_reader.specs.Seen.{seen_acf};
 ghost use Rattle.idl_grammar.specs.Seen.{seen_tree};
+ghost use Rattle.idl_grammar.specs.Files.{Idl, seen_idl};
 ghost use Rattle.idl_names.specs.Walk.{IsFile, names_of};
 ghost use Rattle.idl_names.specs.Loads.{IsOfText};
 ghost use Rattle.idl_names.specs.Seen.{seen_scope};
@@ -18,7 +19,7 @@ use crate::reported::{or_memory, report_fault, report_rule};
 use acf_reader::Acf;
 use command_refusals::{Refusal, load};
 use idl_check::{RuleFault, check};
-use idl_grammar::Tree;
+use idl_grammar::{IdlFile, Language, Tree};
 use idl_lexer::{Tokens, lex};
 use idl_listing::interface_listing;
 use idl_names::{NameFault, Scope, Sources, SyntaxFault, resolve};
@@ -37,16 +38,16 @@ use std::alloc::Global;
 /// Takes memory for the files, the interface and the listing.
 pub fn list<F: Files>(
     alloc: Global,
-    idl: &str,
+    idl: IdlFile<'_>,
     acf: Option<&str>,
     files: &mut F,
 ) -> Result<Octets, Refusal>
     ensures asked { AsksFiles (files_over F.seen files.old files.new)
-        (Some (record { idl = idl.now; acf = option_map (λ a. a.now) acf.entry })) }
+        (Some (record { idl = seen_idl idl; acf = option_map (λ a. a.now) acf.entry })) }
     ensures listed { IfOk result
-        (IsListed (files_over F.seen files.old files.new) idl.now (option_map (λ a. a.now) acf.entry)) }
+        (IsListed (files_over F.seen files.old files.new) (seen_idl idl) (option_map (λ a. a.now) acf.entry)) }
     ensures refused { IfErr result
-        (IsIdlCause (files_over F.seen files.old files.new) idl.now (option_map (λ a. a.now) acf.entry)) }
+        (IsIdlCause (files_over F.seen files.old files.new) (seen_idl idl) (option_map (λ a. a.now) acf.entry)) }
 {
     let interface = compile(alloc, idl, acf, files)?;
     Ok(interface_listing(alloc, &interface)?)
@@ -61,16 +62,16 @@ pub fn list<F: Files>(
 /// Takes memory for the files, the interface, the plan and the listing.
 pub fn list_plan<F: Files>(
     alloc: Global,
-    idl: &str,
+    idl: IdlFile<'_>,
     acf: Option<&str>,
     files: &mut F,
 ) -> Result<Octets, Refusal>
     ensures asked { AsksFiles (files_over F.seen files.old files.new)
-        (Some (record { idl = idl.now; acf = option_map (λ a. a.now) acf.entry })) }
+        (Some (record { idl = seen_idl idl; acf = option_map (λ a. a.now) acf.entry })) }
     ensures planned { IfOk result
-        (IsPlanned (files_over F.seen files.old files.new) idl.now (option_map (λ a. a.now) acf.entry)) }
+        (IsPlanned (files_over F.seen files.old files.new) (seen_idl idl) (option_map (λ a. a.now) acf.entry)) }
     ensures refused { IfErr result
-        (IsIdlCause (files_over F.seen files.old files.new) idl.now (option_map (λ a. a.now) acf.entry)) }
+        (IsIdlCause (files_over F.seen files.old files.new) (seen_idl idl) (option_map (λ a. a.now) acf.entry)) }
 {
     let interface = compile(alloc, idl, acf, files)?;
     let plan = make(alloc, &interface)?;
@@ -88,55 +89,55 @@ pub fn list_plan<F: Files>(
 /// Takes memory for the files and the interface.
 pub fn compile<F: Files>(
     alloc: Global,
-    idl: &str,
+    idl: IdlFile<'_>,
     acf: Option<&str>,
     files: &mut F,
 ) -> Result<Interface, Refusal>
     ensures asked { AsksFiles (files_over F.seen files.old files.new)
-        (Some (record { idl = idl.now; acf = option_map (λ a. a.now) acf.entry })) }
+        (Some (record { idl = seen_idl idl; acf = option_map (λ a. a.now) acf.entry })) }
     ensures ok { IfOk result
-        (IsCompiled (files_over F.seen files.old files.new) idl.now (option_map (λ a. a.now) acf.entry)) }
+        (IsCompiled (files_over F.seen files.old files.new) (seen_idl idl) (option_map (λ a. a.now) acf.entry)) }
     ensures err { IfErr result
-        (IsIdlCause (files_over F.seen files.old files.new) idl.now (option_map (λ a. a.now) acf.entry)) }
+        (IsIdlCause (files_over F.seen files.old files.new) (seen_idl idl) (option_map (λ a. a.now) acf.entry)) }
     ensures later { (F.seen files.old).faults ≤ (F.seen files.new).faults }
     ensures absences_later { (F.seen files.old).absences ≤ (F.seen files.new).absences }
     ensures same { (F.seen files.new).held ≡ (F.seen files.old).held }
 {
-    let text = load(alloc, idl, files)?;
+    let text = load(alloc, idl.name, files)?;
     compile_text(alloc, idl, text, acf, files)
 }
 
 // The interface that a text means with the files that it imports, and an attribute configuration file if one is named.
 fn compile_text<F: Files>(
     alloc: Global,
-    idl: &str,
+    idl: IdlFile<'_>,
     text: Octets,
     acf: Option<&str>,
     files: &mut F,
 ) -> Result<Interface, Refusal>
-    requires { IsContent (F.seen files.old).held idl.now text }
-    ensures asked { AsksAfter (files_over F.seen files.old files.new) idl.now (option_map (λ a. a.now) acf.entry) }
+    requires { IsContent (F.seen files.old).held idl.name.now text }
+    ensures asked { AsksAfter (files_over F.seen files.old files.new) (seen_idl idl) (option_map (λ a. a.now) acf.entry) }
     ensures ok { IfOk result
-        (MeansAfter (files_over F.seen files.old files.new) idl.now text (option_map (λ a. a.now) acf.entry)) }
+        (MeansAfter (files_over F.seen files.old files.new) (seen_idl idl) text (option_map (λ a. a.now) acf.entry)) }
     ensures err { IfErr result
-        (IsTextCause (files_over F.seen files.old files.new) idl.now text (option_map (λ a. a.now) acf.entry)) }
+        (IsTextCause (files_over F.seen files.old files.new) (seen_idl idl) text (option_map (λ a. a.now) acf.entry)) }
     ensures later { (F.seen files.old).faults ≤ (F.seen files.new).faults }
     ensures absences_later { (F.seen files.old).absences ≤ (F.seen files.new).absences }
     ensures same { (F.seen files.new).held ≡ (F.seen files.old).held }
 {
     let mut sources = main_sources(alloc, idl, text)?;
-    match scope_of(alloc, files, &mut sources) {
+    match scope_of(alloc, idl.language, files, &mut sources) {
         Ok(scope) => judge(alloc, &sources, &scope, acf, files),
         Err(fault) => Err(or_memory(report_fault(alloc, &sources, fault))),
     }
 }
 
 // The main file alone.
-fn main_sources(alloc: Global, idl: &str, text: Octets) -> Result<Sources, Memory>
-    ensures { IfOk result (λ sources. sources ≡ main_file idl.now text) }
+fn main_sources(alloc: Global, idl: IdlFile<'_>, text: Octets) -> Result<Sources, Memory>
+    ensures { IfOk result (λ sources. sources ≡ main_file (seen_idl idl) text) }
 {
     let mut sources = Sources::new(alloc);
-    match sources.add(idl, text) {
+    match sources.add(idl.name, text) {
         Ok(_) => Ok(sources),
         Err((memory, _)) => Err(memory),
     }
@@ -145,16 +146,18 @@ fn main_sources(alloc: Global, idl: &str, text: Octets) -> Result<Sources, Memor
 // The names of the main file, and of those that it imports.
 fn scope_of<F: Files>(
     alloc: Global,
+    language: Language,
     files: &mut F,
     sources: &mut Sources,
 ) -> Result<Scope, NameFault>
     requires { length sources.old ≡ 1 }
-    ensures scope { (idl text : List ℕ) → sources.old ≡ main_file idl text
-        → IfOk result (λ scope. AreResolved (F.seen files.old).held idl text (seen_scope sources.new scope)) }
-    ensures fault { (idl text : List ℕ) → sources.old ≡ main_file idl text
-        → IfErr result (IsNameFault (F.seen files.old).held idl text sources.new) }
-    ensures asked { (idl text : List ℕ) → sources.old ≡ main_file idl text
-        → AsksOfImports (F.seen files.old).held idl text (F.seen files.old).asked (F.seen files.new).asked }
+    ensures scope { (name text : List ℕ) → sources.old ≡ main_file (record { name = name; language = language }) text
+        → IfOk result (λ scope. AreResolved (F.seen files.old).held (record { name = name; language = language }) text
+        (seen_scope language sources.new scope)) }
+    ensures fault { (name text : List ℕ) → sources.old ≡ main_file (record { name = name; language = language }) text
+        → IfErr result (IsNameFault (F.seen files.old).held (record { name = name; language = language }) text sources.new) }
+    ensures asked { (name text : List ℕ) → sources.old ≡ main_file (record { name = name; language = language }) text
+        → AsksOfImports (F.seen files.old).held (record { name = name; language = language }) text (F.seen files.old).asked (F.seen files.new).asked }
     ensures all_asked { IfOk result (λ _. (F.seen files.new).asked ≡ (F.seen files.old).asked ++ names_of (drop 1 sources.new)) }
     ensures absent { IfErr result (IsAbsent (F.seen files.old).absences (F.seen files.new).absences) }
     ensures failed { IfErr result (IsFailed (F.seen files.old).faults (F.seen files.new).faults) }
@@ -162,32 +165,32 @@ fn scope_of<F: Files>(
     ensures absences_later { (F.seen files.old).absences ≤ (F.seen files.new).absences }
     ensures same { (F.seen files.new).held ≡ (F.seen files.old).held }
 {
-    let tree = main_tree(alloc, sources)?;
-    resolve(alloc, files, sources, tree)
+    let tree = main_tree(alloc, language, sources)?;
+    resolve(alloc, language, files, sources, tree)
 }
 
 // The tree of the main file.
-fn main_tree(alloc: Global, sources: &Sources) -> Result<Tree, NameFault>
+fn main_tree(alloc: Global, language: Language, sources: &Sources) -> Result<Tree, NameFault>
     requires { length sources.now ≡ 1 }
-    ensures tree { (idl text : List ℕ) → sources.now ≡ main_file idl text → IfOk result (λ t. IsFile text (seen_tree t)) }
-    ensures fault { (idl text : List ℕ) → sources.now ≡ main_file idl text → IfErr result (IsMainFault text) }
+    ensures tree { (name text : List ℕ) → sources.now ≡ main_file (record { name = name; language = language }) text → IfOk result (λ t. IsFile language text (seen_tree t)) }
+    ensures fault { (name text : List ℕ) → sources.now ≡ main_file (record { name = name; language = language }) text → IfErr result (IsMainFault language text) }
 {
     let Some(text) = sources.text(0) else {
         unreachable!()
     };
-    tree_of(alloc, text)
+    tree_of(alloc, language, text)
 }
 
 // The tree of the text of a main file.
-fn tree_of(alloc: Global, text: &[u8]) -> Result<Tree, NameFault>
-    ensures tree { IfOk result (λ t. IsFile text.now (seen_tree t)) }
-    ensures fault { IfErr result (IsMainFault text.now) }
+fn tree_of(alloc: Global, language: Language, text: &[u8]) -> Result<Tree, NameFault>
+    ensures tree { IfOk result (λ t. IsFile language text.now (seen_tree t)) }
+    ensures fault { IfErr result (IsMainFault language text.now) }
 {
     let tokens = match lex(alloc, text) {
         Ok(tokens) => tokens,
         Err(fault) => return Err(NameFault::Lex { file: 0, fault }),
     };
-    match parse(alloc, &tokens) {
+    match parse(alloc, language, &tokens) {
         Ok(tree) => Ok(tree),
         Err(fault) => Err(no_file(&tokens, fault)),
     }
@@ -219,9 +222,9 @@ fn judge<F: Files>(
     files: &mut F,
 ) -> Result<Interface, Refusal>
     ensures asked { (F.seen files.new).asked ≡ (F.seen files.old).asked ++ option_to_list (option_map (λ a. a.now) acf.entry) }
-    ensures ok { (idl text : List ℕ) → (r : AreResolved (F.seen files.old).held idl text (seen_scope sources.now scope.now))
-        → IfOk result (IsJudged (F.seen files.old).held idl text (option_map (λ a. a.now) acf.entry) (seen_scope sources.now scope.now)) }
-    ensures err { (idl text : List ℕ) → AreResolved (F.seen files.old).held idl text (seen_scope sources.now scope.now)
+    ensures ok { (idl : Idl) (text : List ℕ) → (r : AreResolved (F.seen files.old).held idl text (seen_scope idl.language sources.now scope.now))
+        → IfOk result (IsJudged (F.seen files.old).held idl text (option_map (λ a. a.now) acf.entry) (seen_scope idl.language sources.now scope.now)) }
+    ensures err { (idl : Idl) (text : List ℕ) → AreResolved (F.seen files.old).held idl text (seen_scope idl.language sources.now scope.now)
         → IfErr result
         (IsTextCause (files_over F.seen files.old files.new) idl text (option_map (λ a. a.now) acf.entry)) }
     ensures later { (F.seen files.old).faults ≤ (F.seen files.new).faults }

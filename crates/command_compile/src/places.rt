@@ -2,6 +2,7 @@
 ghost use Rattle.std.specs.Prelude.{◌≡◌, ℕ, true, false, option_map, IfOk, IfErr};
 ghost use Rattle.nd_base.specs.Over.{files_over};
 ghost use Rattle.idl_compat.specs.Comparison.{IsFirst};
+ghost use Rattle.idl_grammar.specs.Files.{seen_idl};
 ghost use Rattle.command_refusals.specs.declared.refusal.Refusal.TheVariants.{NotCompatible};
 ghost use Rattle.command_refusals.specs.declared.refusal.CompatFault.TheVariants as fault;
 ghost use Rattle.command_compile.specs.Compat.{AsksBoth, IsCompatible, IsIncompatible, IsRefusal, IsPlaceText, IsExplained, IsOfOperation};
@@ -9,6 +10,7 @@ ghost use Rattle.command_compile.specs.Compat.{AsksBoth, IsCompatible, IsIncompa
 use crate::versions::{answer, compile_both};
 use command_refusals::{CompatFault, Refusal};
 use idl_compat_place::{difference_lines, first_difference};
+use idl_grammar::IdlFile;
 use nd_base::{Files, Memory, Octets};
 use nd_types::Interface;
 use std::alloc::Global;
@@ -30,21 +32,21 @@ pub struct Incompatible {
 /// Takes memory as [`compat`](crate::compat), and for the place. The time is in proportion to the files, the interfaces and the pairs of their types.
 pub fn compat_why<F: Files>(
     alloc: Global,
-    old: &str,
+    old: IdlFile<'_>,
     old_acf: Option<&str>,
-    new: &str,
+    new: IdlFile<'_>,
     new_acf: Option<&str>,
     files: &mut F,
 ) -> Result<Octets, Incompatible>
     ensures asked { AsksBoth (files_over F.seen files.old files.new)
-        (record { idl = old.now; acf = option_map (λ a. a.now) old_acf.entry })
-        (record { idl = new.now; acf = option_map (λ a. a.now) new_acf.entry }) }
+        (record { idl = seen_idl old; acf = option_map (λ a. a.now) old_acf.entry })
+        (record { idl = seen_idl new; acf = option_map (λ a. a.now) new_acf.entry }) }
     ensures done { IfOk result (IsCompatible (files_over F.seen files.old files.new)
-        (record { idl = old.now; acf = option_map (λ a. a.now) old_acf.entry })
-        (record { idl = new.now; acf = option_map (λ a. a.now) new_acf.entry })) }
+        (record { idl = seen_idl old; acf = option_map (λ a. a.now) old_acf.entry })
+        (record { idl = seen_idl new; acf = option_map (λ a. a.now) new_acf.entry })) }
     ensures refused { IfErr result (IsIncompatible (files_over F.seen files.old files.new)
-        (record { idl = old.now; acf = option_map (λ a. a.now) old_acf.entry })
-        (record { idl = new.now; acf = option_map (λ a. a.now) new_acf.entry })) }
+        (record { idl = seen_idl old; acf = option_map (λ a. a.now) old_acf.entry })
+        (record { idl = seen_idl new; acf = option_map (λ a. a.now) new_acf.entry })) }
 {
     let versions = match compile_both(alloc, old, old_acf, new, new_acf, files) {
         Ok(versions) => versions,

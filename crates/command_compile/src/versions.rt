@@ -4,6 +4,7 @@ ghost use Rattle.std.specs.List.{slice_get};
 ghost use Rattle.nd_base.specs.Over.{files_over};
 ghost use Rattle.nd_base.specs.Text.{joined};
 ghost use Rattle.nd_types.specs.declared.types.Operation.{Operation};
+ghost use Rattle.idl_grammar.specs.Files.{seen_idl};
 ghost use Rattle.command_refusals.specs.declared.refusal.Refusal.TheVariants.{NotCompatible};
 ghost use Rattle.command_refusals.specs.declared.refusal.CompatFault.TheVariants as fault;
 ghost use Rattle.command_compile.specs.Compat.{AsksBoth, IsCompatible, IsCompatCause, AreCompiled, IsFilesCause, IsAnswer, IsRefusal, IsDifference};
@@ -12,6 +13,7 @@ ghost use Rattle.command_compile.specs.Compat.{compatible_line as line_of};
 use crate::compile;
 use command_refusals::{CompatFault, Refusal};
 use idl_compat::{Compared, compare};
+use idl_grammar::IdlFile;
 use itoa::Buffer;
 use nd_base::text::join;
 use nd_base::{Files, Memory, Octets};
@@ -41,21 +43,21 @@ pub(crate) struct Versions {
 /// Takes memory for the files, the interfaces and the pairs of their types. The time is in proportion to these.
 pub fn compat<F: Files>(
     alloc: Global,
-    old: &str,
+    old: IdlFile<'_>,
     old_acf: Option<&str>,
-    new: &str,
+    new: IdlFile<'_>,
     new_acf: Option<&str>,
     files: &mut F,
 ) -> Result<Octets, Refusal>
     ensures asked { AsksBoth (files_over F.seen files.old files.new)
-        (record { idl = old.now; acf = option_map (λ a. a.now) old_acf.entry })
-        (record { idl = new.now; acf = option_map (λ a. a.now) new_acf.entry }) }
+        (record { idl = seen_idl old; acf = option_map (λ a. a.now) old_acf.entry })
+        (record { idl = seen_idl new; acf = option_map (λ a. a.now) new_acf.entry }) }
     ensures done { IfOk result (IsCompatible (files_over F.seen files.old files.new)
-        (record { idl = old.now; acf = option_map (λ a. a.now) old_acf.entry })
-        (record { idl = new.now; acf = option_map (λ a. a.now) new_acf.entry })) }
+        (record { idl = seen_idl old; acf = option_map (λ a. a.now) old_acf.entry })
+        (record { idl = seen_idl new; acf = option_map (λ a. a.now) new_acf.entry })) }
     ensures refused { IfErr result (IsCompatCause (files_over F.seen files.old files.new)
-        (record { idl = old.now; acf = option_map (λ a. a.now) old_acf.entry })
-        (record { idl = new.now; acf = option_map (λ a. a.now) new_acf.entry })) }
+        (record { idl = seen_idl old; acf = option_map (λ a. a.now) old_acf.entry })
+        (record { idl = seen_idl new; acf = option_map (λ a. a.now) new_acf.entry })) }
 {
     let versions = compile_both(alloc, old, old_acf, new, new_acf, files)?;
     answer(alloc, &versions.older, &versions.newer)
@@ -64,22 +66,22 @@ pub fn compat<F: Files>(
 // The interfaces of both files.
 pub(crate) fn compile_both<F: Files>(
     alloc: Global,
-    old: &str,
+    old: IdlFile<'_>,
     old_acf: Option<&str>,
-    new: &str,
+    new: IdlFile<'_>,
     new_acf: Option<&str>,
     files: &mut F,
 ) -> Result<Versions, Refusal>
     ensures asked { AsksBoth (files_over F.seen files.old files.new)
-        (record { idl = old.now; acf = option_map (λ a. a.now) old_acf.entry })
-        (record { idl = new.now; acf = option_map (λ a. a.now) new_acf.entry }) }
+        (record { idl = seen_idl old; acf = option_map (λ a. a.now) old_acf.entry })
+        (record { idl = seen_idl new; acf = option_map (λ a. a.now) new_acf.entry }) }
     ensures compiled { IfOk result (λ v. AreCompiled (files_over F.seen files.old files.new)
-        (record { idl = old.now; acf = option_map (λ a. a.now) old_acf.entry })
-        (record { idl = new.now; acf = option_map (λ a. a.now) new_acf.entry })
+        (record { idl = seen_idl old; acf = option_map (λ a. a.now) old_acf.entry })
+        (record { idl = seen_idl new; acf = option_map (λ a. a.now) new_acf.entry })
         v.older v.newer) }
     ensures refused { IfErr result (IsFilesCause (files_over F.seen files.old files.new)
-        (record { idl = old.now; acf = option_map (λ a. a.now) old_acf.entry })
-        (record { idl = new.now; acf = option_map (λ a. a.now) new_acf.entry })) }
+        (record { idl = seen_idl old; acf = option_map (λ a. a.now) old_acf.entry })
+        (record { idl = seen_idl new; acf = option_map (λ a. a.now) new_acf.entry })) }
 {
     let older = compile(alloc, old, old_acf, files)?;
     let newer = compile(alloc, new, new_acf, files)?;

@@ -2,6 +2,7 @@
 use Rattle.std.specs.Prelude.{◌≡◌, ◌≤◌, Option, None, Some, option_map, ⊤}
 use Rattle.nd_types.specs.declared.types.Side.{Side}
 use Rattle.nd_types.specs.declared.types.Side.TheVariants.{Out}
+use Rattle.idl_grammar.specs.Files.{seen_idl}
 use Rattle.command_line.specs.Words as words
 use Rattle.command_line.specs.declared.TheConstants.{COUNT_LIMIT, LEAST_MAX}
 use Rattle.command_line.specs.declared.command.Subject.{Subject}
@@ -11,15 +12,16 @@ use Rattle.command_line.specs.declared.command.Task.TheVariants.{Read, Encode, M
 use Rattle.command_line.specs.declared.command.Command.TheVariants.{Values, Compile, Plan, Call, Wrap, Compat, Sample, Help, Version}
 
 abbrev pub subject_of : Subject → words.Subject
-subject_of of = record { idl = of.idl.now; acf = option_map (λ a. a.now) of.acf; op = of.op.now; side = of.side }
+subject_of of = record { idl = seen_idl of.idl; acf = option_map (λ a. a.now) of.acf; op = of.op.now; side = of.side }
 
 abbrev pub command_of : Command → words.Command
 command_of (Values task of given) = words.Values task (subject_of of) (option_map (λ t. t.now) given)
-command_of (Compile idl acf) = words.Compile idl.now (option_map (λ a. a.now) acf)
-command_of (Plan idl acf) = words.Plan idl.now (option_map (λ a. a.now) acf)
-command_of (Call idl acf op) = words.Call idl.now (option_map (λ a. a.now) acf) (option_map (λ a. a.now) op)
+command_of (Compile idl acf) = words.Compile (seen_idl idl) (option_map (λ a. a.now) acf)
+command_of (Plan idl acf) = words.Plan (seen_idl idl) (option_map (λ a. a.now) acf)
+command_of (Call idl acf op) = words.Call (seen_idl idl) (option_map (λ a. a.now) acf) (option_map (λ a. a.now) op)
 command_of (Wrap of order call max) = words.Wrap (subject_of of) order call max
-command_of (Compat old old_acf new new_acf why) = words.Compat old.now (option_map (λ a. a.now) old_acf) new.now (option_map (λ a. a.now) new_acf) why
+command_of (Compat old old_acf new new_acf why) =
+    words.Compat (seen_idl old) (option_map (λ a. a.now) old_acf) (seen_idl new) (option_map (λ a. a.now) new_acf) why
 command_of (Sample seed count) = words.Sample seed count
 command_of Help = words.Help
 command_of Version = words.Version

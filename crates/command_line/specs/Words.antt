@@ -5,6 +5,8 @@ use Rattle.std.specs.Str.Parse.{digits_value}
 use Rattle.nd_base.specs.declared.octets.Order.{Order}
 use Rattle.nd_base.specs.declared.octets.Order.TheVariants.{Little, Big}
 use Rattle.nd_types.specs.declared.types.Side.{Side}
+use Rattle.idl_grammar.specs.declared.language.Language.TheVariants as language
+use Rattle.idl_grammar.specs.Files.{Idl, in_c706}
 use Rattle.nd_types.specs.declared.types.Side.TheVariants.{In, Out}
 use Rattle.command_line.specs.declared.TheConstants.{CHUNK_LIMIT, COUNT_LIMIT, LEAST_MAX}
 use Rattle.command_line.specs.declared.command.Reading.{Reading}
@@ -16,7 +18,7 @@ use Rattle.command_line.specs.declared.command.Task.TheVariants.{Read, Encode, M
 
 -- what a command on values speaks of: the files, an operation of their interface, and a side of it
 pub record Subject : Type 0 where
-  pub idl : List ℕ
+  pub idl : Idl
   pub acf : Option (List ℕ)
   pub op : List ℕ
   pub side : Side
@@ -26,15 +28,15 @@ pub data Command : Type 0 where
   -- the input is read; its values are judged beside the request of a file, if one is named
   Values : (task : Task) (of : Subject) (given : Option (List ℕ)) → Command
   -- the listing of an interface
-  Compile : (idl : List ℕ) (acf : Option (List ℕ)) → Command
+  Compile : (idl : Idl) (acf : Option (List ℕ)) → Command
   -- the listing of its plan
-  Plan : (idl : List ℕ) (acf : Option (List ℕ)) → Command
+  Plan : (idl : Idl) (acf : Option (List ℕ)) → Command
   -- fragments are joined, and the text of the values of their stub data is written: those of a response to an operation, or of a request
-  Call : (idl : List ℕ) (acf : Option (List ℕ)) (op : Option (List ℕ)) → Command
+  Call : (idl : Idl) (acf : Option (List ℕ)) (op : Option (List ℕ)) → Command
   -- the input's text is read, and its octets are written as the stub data of fragments, with a call id and so many octets each at most
   Wrap : (of : Subject) (order : Order) (call max : ℕ) → Command
   -- two versions of an interface are compared; if `why` is true, the first place at which they differ is written
-  Compat : (old : List ℕ) (old_acf : Option (List ℕ)) (new : List ℕ) (new_acf : Option (List ℕ)) (why : Bool) → Command
+  Compat : (old : Idl) (old_acf : Option (List ℕ)) (new : Idl) (new_acf : Option (List ℕ)) (why : Bool) → Command
   -- what these words of a refusal mean is written
   Why : (words : List (List ℕ)) → Command
   -- a graph of so many cells, made from a seed, is encoded and decoded
@@ -44,11 +46,11 @@ pub data Command : Type 0 where
 
 -- the file of IDL and the operation that the line of a refusal names
 abbrev pub idl_of : Command → List ℕ
-idl_of (Values task of given) = of.idl
-idl_of (Compile idl acf) = idl
-idl_of (Plan idl acf) = idl
-idl_of (Call idl acf op) = idl
-idl_of (Wrap of order call max) = of.idl
+idl_of (Values task of given) = of.idl.name
+idl_of (Compile idl acf) = idl.name
+idl_of (Plan idl acf) = idl.name
+idl_of (Call idl acf op) = idl.name
+idl_of (Wrap of order call max) = of.idl.name
 idl_of _ = []
 
 -- a name, or nothing if there is none
@@ -135,7 +137,7 @@ abbrev pub max_of : List ℕ → Option ℕ
 max_of word = number_of LEAST_MAX 65535 word
 
 abbrev pub subject : List ℕ → List ℕ → List ℕ → Side → Subject
-subject idl acf op side = record { idl = idl; acf = acf_of acf; op = op; side = side }
+subject idl acf op side = record { idl = in_c706 idl; acf = acf_of acf; op = op; side = side }
 
 -- a command that reads octets, if its words are a way of reading, a side and an order
 abbrev pub read : Option Reading → List ℕ → List ℕ → List ℕ → Option Side → Option OrderWord → Option Command
@@ -175,8 +177,8 @@ read_beside_words how idl acf op side order given text =
 -- `compile` or `plan`
 abbrev pub listing : List ℕ → List ℕ → List ℕ → Option Command
 listing verb idl acf =
-    if is_word verb (codes "compile") then Some (Compile idl (acf_of acf))
-    else if is_word verb (codes "plan") then Some (Plan idl (acf_of acf)) else None
+    if is_word verb (codes "compile") then Some (Compile (in_c706 idl) (acf_of acf))
+    else if is_word verb (codes "plan") then Some (Plan (in_c706 idl) (acf_of acf)) else None
 
 -- `sample`, if its words are a seed and a count
 abbrev pub sample : Option ℕ → Option ℕ → Option Command
@@ -186,7 +188,7 @@ sample _ _ = None
 -- `compat` with the last word `why`
 abbrev pub compat_why : List ℕ → List ℕ → List ℕ → List ℕ → List ℕ → Option Command
 compat_why old old_acf new new_acf why =
-    if is_word why (codes "why") then Some (Compat old (acf_of old_acf) new (acf_of new_acf) true) else None
+    if is_word why (codes "why") then Some (Compat (in_c706 old) (acf_of old_acf) (in_c706 new) (acf_of new_acf) true) else None
 
 -- The command that words are by their number, if they are one: `compile IDL ACF`, `plan IDL ACF`, `sample SEED COUNT`,
 -- `call IDL ACF OP` or `call IDL ACF -`, `migrate IDL ACF OP SIDE`, `compat OLD OLDACF NEW NEWACF`, the same with `why`,
@@ -202,10 +204,10 @@ counted_command (word ∷ []) =
 counted_command (verb ∷ first ∷ second ∷ []) =
     if is_word verb (codes "sample") then sample (seed_of first) (count_of second) else listing verb first second
 counted_command (verb ∷ first ∷ second ∷ third ∷ []) =
-    if is_word verb (codes "call") then Some (Call first (acf_of second) (operation_of third)) else None
+    if is_word verb (codes "call") then Some (Call (in_c706 first) (acf_of second) (operation_of third)) else None
 counted_command (verb ∷ first ∷ second ∷ third ∷ fourth ∷ []) =
     if is_word verb (codes "migrate") then migrate first second third (side_of fourth)
-    else if is_word verb (codes "compat") then Some (Compat first (acf_of second) third (acf_of fourth) false) else None
+    else if is_word verb (codes "compat") then Some (Compat (in_c706 first) (acf_of second) (in_c706 third) (acf_of fourth) false) else None
 counted_command (verb ∷ first ∷ second ∷ third ∷ fourth ∷ fifth ∷ []) =
     if is_word verb (codes "compat") then compat_why first second third fourth fifth
     else read (reading_of verb) first second third (side_of fourth) (order_of fifth)
@@ -219,6 +221,40 @@ counted_command (verb ∷ idl ∷ acf ∷ op ∷ side ∷ order ∷ chunk ∷ gi
     then encode_beside idl acf op (side_of side) (order_of order) (chunk_of chunk) text else None
 counted_command _ = None
 
+-- ### In the windows language
+
+-- the same file in the windows language
+abbrev pub in_windows : Idl → Idl
+in_windows file = record { name = file.name; language = language.Windows }
+
+abbrev pub subject_in_windows : Subject → Subject
+subject_in_windows of = record { idl = in_windows of.idl; acf = of.acf; op = of.op; side = of.side }
+
+-- a command with its interface files in the windows language, if it names such files, and `--help`
+abbrev pub windows_command : Command → Option Command
+windows_command (Values task of given) = Some (Values task (subject_in_windows of) given)
+windows_command (Compile idl acf) = Some (Compile (in_windows idl) acf)
+windows_command (Plan idl acf) = Some (Plan (in_windows idl) acf)
+windows_command (Call idl acf op) = Some (Call (in_windows idl) acf op)
+windows_command (Wrap of order call max) = Some (Wrap (subject_in_windows of) order call max)
+windows_command (Compat old old_acf new new_acf why) = Some (Compat (in_windows old) old_acf (in_windows new) new_acf why)
+windows_command (Why words) = None
+windows_command (Sample seed count) = None
+windows_command Help = Some Help
+windows_command Version = None
+
+abbrev pub if_in_windows : Option Command → Option Command
+if_in_windows None = None
+if_in_windows (Some c) = windows_command c
+
+-- The command that words are: after `windows` one that names interface files, in the windows language, or else the command by their number.
+abbrev pub worded_command : List (List ℕ) → Option Command
+worded_command [] = counted_command []
+worded_command (word ∷ words) =
+    if is_word word (codes "windows") then if_in_windows (counted_command words) else counted_command (word ∷ words)
+
+-- ### Explanations
+
 -- the words after `why`, if it is the first
 abbrev pub why_words : List (List ℕ) → Option (List (List ℕ))
 why_words [] = None
@@ -226,9 +262,9 @@ why_words (verb ∷ rest) = if is_word verb (codes "why") then Some rest else No
 
 abbrev pub command_or_why : Option (List (List ℕ)) → List (List ℕ) → Option Command
 command_or_why (Some words) all = Some (Why words)
-command_or_why None all = counted_command all
+command_or_why None all = worded_command all
 
--- The command that words are, if they are one: `why WORD ..`, or else the command by their number.
+-- The command that words are, if they are one: `why WORD ..`, or else a command with or without `windows`.
 abbrev pub command : List (List ℕ) → Option Command
 command words = command_or_why (why_words words) words
 

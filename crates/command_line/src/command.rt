@@ -2,6 +2,7 @@
 ghost use Rattle.std.specs.Prelude.{◌≡◌};
 ghost use Rattle.command_line.specs.Words.{order_in};
 
+use idl_grammar::IdlFile;
 use nd_base::Order;
 use nd_types::Side;
 
@@ -54,7 +55,7 @@ pub enum Task {
 #[derive(Clone, Copy)]
 pub struct Subject<'a> {
     /// The file of IDL.
-    pub idl: &'a str,
+    pub idl: IdlFile<'a>,
     /// The attribute configuration file, if one is named.
     pub acf: Option<&'a str>,
     /// The operation.
@@ -74,17 +75,17 @@ pub enum Command<'a> {
     },
     /// The listing of an interface.
     Compile {
-        idl: &'a str,
+        idl: IdlFile<'a>,
         acf: Option<&'a str>,
     },
     /// The listing of its plan.
     Plan {
-        idl: &'a str,
+        idl: IdlFile<'a>,
         acf: Option<&'a str>,
     },
     /// The fragments of one call are joined, and the text of the values of their stub data is written.
     Call {
-        idl: &'a str,
+        idl: IdlFile<'a>,
         acf: Option<&'a str>,
         /// The operation of the response that is read. If there is none, a request is read, and it states its operation.
         op: Option<&'a str>,
@@ -100,9 +101,9 @@ pub enum Command<'a> {
     },
     /// Two versions of an interface are compared.
     Compat {
-        old: &'a str,
+        old: IdlFile<'a>,
         old_acf: Option<&'a str>,
-        new: &'a str,
+        new: IdlFile<'a>,
         new_acf: Option<&'a str>,
         /// Whether the first place at which they differ is written.
         why: bool,

@@ -7,12 +7,15 @@ ghost use Rattle.command_line.specs.Words.{encode as encode_of, encode_beside as
 ghost use Rattle.command_line.specs.Words.{listing as listing_of, subject as subject_by};
 ghost use Rattle.command_line.specs.Words.{is_session as is_session_of, operation_of, fixed_order_of, wrap as wrap_of};
 ghost use Rattle.command_line.specs.Words.{read_beside_words as read_beside_words_of, compat_why as compat_why_of};
+ghost use Rattle.command_line.specs.Words.{worded_command, if_in_windows, in_windows as windows_file};
+ghost use Rattle.idl_grammar.specs.Files.{seen_idl, in_c706 as c706_file};
 ghost use Rattle.command_line.specs.declared.TheConstants.{COUNT_LIMIT, LEAST_MAX};
 ghost use Rattle.command_line.specs.Commands.{command_of, subject_of, IsWellFormed};
 
 use crate::command::{Command, OrderWord, Reading, Subject, Task};
 use crate::numbers::number_named;
 use crate::{CHUNK_LIMIT, COUNT_LIMIT, LEAST_MAX};
+use idl_grammar::{IdlFile, Language};
 use nd_base::{Memory, Order};
 use nd_types::Side;
 use std::alloc::Global;
@@ -73,17 +76,131 @@ impl Words {
         words_after_why(self.items.as_slice())
     }
 
-    /// The command that the words are by their number, or None if they are none. Takes no memory.
+    /// The command that the words are, or None if they are none. After `windows` its interface files are in the windows language. Takes no memory.
     pub fn command(&self) -> Option<Command<'_>>
-        ensures command { option_map command_of result ≡ counted_command self.now }
+        ensures command { option_map command_of result ≡ worded_command self.now }
         ensures formed { IfSome result IsWellFormed }
     {
-        let words = self.items.as_slice();
-        match words.len() {
-            0..=5 => command_of_few(words),
-            6 | 7 => command_of_more(words),
-            _ => command_of_most(words),
+        command_of_all(self.items.as_slice())
+    }
+}
+
+// The command that words are, if `windows` is the first in the windows language.
+fn command_of_all(words: &[String]) -> Option<Command<'_>>
+    ensures command { option_map command_of result ≡ worded_command (map string_bytes words.now) }
+    ensures formed { IfSome result IsWellFormed }
+{
+    match words {
+        [verb, rest @ ..] => {
+            if verb.as_str() == "windows" {
+                if_windows(command_of_count(rest))
+            } else {
+                command_of_count(words)
+            }
         }
+        [] => command_of_count(words),
+    }
+}
+
+// The command that words are by their number.
+fn command_of_count(words: &[String]) -> Option<Command<'_>>
+    ensures command { option_map command_of result ≡ counted_command (map string_bytes words.now) }
+    ensures formed { IfSome result IsWellFormed }
+{
+    match words.len() {
+        0..=5 => command_of_few(words),
+        6 | 7 => command_of_more(words),
+        _ => command_of_most(words),
+    }
+}
+
+// A command with its interface files in the windows language, if there is one that names such files, and `--help`.
+fn if_windows(command: Option<Command<'_>>) -> Option<Command<'_>>
+    requires { IfSome command IsWellFormed }
+    ensures command { option_map command_of result ≡ if_in_windows (option_map command_of command) }
+    ensures formed { IfSome result IsWellFormed }
+{
+    match command {
+        Some(Command::Values { task, of, given }) => Some(Command::Values {
+            task,
+            of: Subject {
+                idl: in_windows(of.idl),
+                acf: of.acf,
+                op: of.op,
+                side: of.side,
+            },
+            given,
+        }),
+        Some(Command::Compile { idl, acf }) => Some(Command::Compile {
+            idl: in_windows(idl),
+            acf,
+        }),
+        Some(Command::Plan { idl, acf }) => Some(Command::Plan {
+            idl: in_windows(idl),
+            acf,
+        }),
+        Some(Command::Call { idl, acf, op }) => Some(Command::Call {
+            idl: in_windows(idl),
+            acf,
+            op,
+        }),
+        Some(
+            Command::Wrap {
+                of,
+                order,
+                call,
+                max,
+            },
+        ) => Some(Command::Wrap {
+            of: Subject {
+                idl: in_windows(of.idl),
+                acf: of.acf,
+                op: of.op,
+                side: of.side,
+            },
+            order,
+            call,
+            max,
+        }),
+        Some(
+            Command::Compat {
+                old,
+                old_acf,
+                new,
+                new_acf,
+                why,
+            },
+        ) => Some(Command::Compat {
+            old: in_windows(old),
+            old_acf,
+            new: in_windows(new),
+            new_acf,
+            why,
+        }),
+        Some(Command::Help) => Some(Command::Help),
+        Some(Command::Sample { .. }) => None,
+        Some(Command::Version) => None,
+        None => None,
+    }
+}
+
+// The same file in the windows language.
+fn in_windows(file: IdlFile<'_>) -> IdlFile<'_>
+    ensures { seen_idl result ≡ windows_file (seen_idl file) }
+{
+    IdlFile {
+        name: file.name,
+        language: Language::Windows,
+    }
+}
+
+// A file of this name in the language of C706.
+fn in_c706(name: &str) -> IdlFile<'_>
+    ensures { seen_idl result ≡ c706_file name.now }
+{
+    IdlFile {
+        name,
+        language: Language::C706,
     }
 }
 
@@ -238,7 +355,7 @@ fn four_words<'a>(
 {
     if verb == "call" {
         Some(Command::Call {
-            idl: first,
+            idl: in_c706(first),
             acf: acf_named(second),
             op: operation_named(third),
         })
@@ -262,9 +379,9 @@ fn five_words<'a>(
         migrate_command(first, second, third, side_named(fourth))
     } else if verb == "compat" {
         Some(Command::Compat {
-            old: first,
+            old: in_c706(first),
             old_acf: acf_named(second),
-            new: third,
+            new: in_c706(third),
             new_acf: acf_named(fourth),
             why: false,
         })
@@ -313,9 +430,9 @@ fn compat_why<'a>(
 {
     if why == "why" {
         Some(Command::Compat {
-            old,
+            old: in_c706(old),
             old_acf: acf_named(old_acf),
-            new,
+            new: in_c706(new),
             new_acf: acf_named(new_acf),
             why: true,
         })
@@ -399,12 +516,12 @@ fn listing_command<'a>(verb: &str, idl: &'a str, acf: &'a str) -> Option<Command
 {
     if verb == "compile" {
         Some(Command::Compile {
-            idl,
+            idl: in_c706(idl),
             acf: acf_named(acf),
         })
     } else if verb == "plan" {
         Some(Command::Plan {
-            idl,
+            idl: in_c706(idl),
             acf: acf_named(acf),
         })
     } else {
@@ -589,7 +706,7 @@ fn subject_named<'a>(idl: &'a str, acf: &'a str, op: &'a str, side: Side) -> Sub
     ensures { subject_of result ≡ subject_by idl.now acf.now op.now side }
 {
     Subject {
-        idl,
+        idl: in_c706(idl),
         acf: acf_named(acf),
         op,
         side,
