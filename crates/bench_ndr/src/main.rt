@@ -9,6 +9,7 @@
 mod measure;
 
 use command_compile::compile;
+use idl_grammar::{IdlFile, Language};
 use measure::{decoded, measured};
 use nd_base::{FolderFiles, InputSource, Octets, Source};
 use ndr_plan::make;
@@ -27,7 +28,11 @@ fn main(rt: HostRuntime) -> io::Result<()> {
         return Err(invalid());
     };
     let mut files = FolderFiles::new(&rt);
-    let Ok(interface) = compile(rt.alloc(), idl.as_str(), None, &mut files) else {
+    let main_file = IdlFile {
+        name: idl.as_str(),
+        language: Language::C706,
+    };
+    let Ok(interface) = compile(rt.alloc(), main_file, None, &mut files) else {
         return Err(invalid());
     };
     let Ok(plan) = make(rt.alloc(), &interface) else {

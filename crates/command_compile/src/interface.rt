@@ -43,11 +43,11 @@ pub fn list<F: Files>(
     files: &mut F,
 ) -> Result<Octets, Refusal>
     ensures asked { AsksFiles (files_over F.seen files.old files.new)
-        (Some (record { idl = seen_idl idl; acf = option_map (λ a. a.now) acf.entry })) }
+        (Some (record { idl = seen_idl idl.entry; acf = option_map (λ a. a.now) acf.entry })) }
     ensures listed { IfOk result
-        (IsListed (files_over F.seen files.old files.new) (seen_idl idl) (option_map (λ a. a.now) acf.entry)) }
+        (IsListed (files_over F.seen files.old files.new) (seen_idl idl.entry) (option_map (λ a. a.now) acf.entry)) }
     ensures refused { IfErr result
-        (IsIdlCause (files_over F.seen files.old files.new) (seen_idl idl) (option_map (λ a. a.now) acf.entry)) }
+        (IsIdlCause (files_over F.seen files.old files.new) (seen_idl idl.entry) (option_map (λ a. a.now) acf.entry)) }
 {
     let interface = compile(alloc, idl, acf, files)?;
     Ok(interface_listing(alloc, &interface)?)
@@ -67,11 +67,11 @@ pub fn list_plan<F: Files>(
     files: &mut F,
 ) -> Result<Octets, Refusal>
     ensures asked { AsksFiles (files_over F.seen files.old files.new)
-        (Some (record { idl = seen_idl idl; acf = option_map (λ a. a.now) acf.entry })) }
+        (Some (record { idl = seen_idl idl.entry; acf = option_map (λ a. a.now) acf.entry })) }
     ensures planned { IfOk result
-        (IsPlanned (files_over F.seen files.old files.new) (seen_idl idl) (option_map (λ a. a.now) acf.entry)) }
+        (IsPlanned (files_over F.seen files.old files.new) (seen_idl idl.entry) (option_map (λ a. a.now) acf.entry)) }
     ensures refused { IfErr result
-        (IsIdlCause (files_over F.seen files.old files.new) (seen_idl idl) (option_map (λ a. a.now) acf.entry)) }
+        (IsIdlCause (files_over F.seen files.old files.new) (seen_idl idl.entry) (option_map (λ a. a.now) acf.entry)) }
 {
     let interface = compile(alloc, idl, acf, files)?;
     let plan = make(alloc, &interface)?;
@@ -94,11 +94,11 @@ pub fn compile<F: Files>(
     files: &mut F,
 ) -> Result<Interface, Refusal>
     ensures asked { AsksFiles (files_over F.seen files.old files.new)
-        (Some (record { idl = seen_idl idl; acf = option_map (λ a. a.now) acf.entry })) }
+        (Some (record { idl = seen_idl idl.entry; acf = option_map (λ a. a.now) acf.entry })) }
     ensures ok { IfOk result
-        (IsCompiled (files_over F.seen files.old files.new) (seen_idl idl) (option_map (λ a. a.now) acf.entry)) }
+        (IsCompiled (files_over F.seen files.old files.new) (seen_idl idl.entry) (option_map (λ a. a.now) acf.entry)) }
     ensures err { IfErr result
-        (IsIdlCause (files_over F.seen files.old files.new) (seen_idl idl) (option_map (λ a. a.now) acf.entry)) }
+        (IsIdlCause (files_over F.seen files.old files.new) (seen_idl idl.entry) (option_map (λ a. a.now) acf.entry)) }
     ensures later { (F.seen files.old).faults ≤ (F.seen files.new).faults }
     ensures absences_later { (F.seen files.old).absences ≤ (F.seen files.new).absences }
     ensures same { (F.seen files.new).held ≡ (F.seen files.old).held }
@@ -115,12 +115,12 @@ fn compile_text<F: Files>(
     acf: Option<&str>,
     files: &mut F,
 ) -> Result<Interface, Refusal>
-    requires { IsContent (F.seen files.old).held idl.name.now text }
-    ensures asked { AsksAfter (files_over F.seen files.old files.new) (seen_idl idl) (option_map (λ a. a.now) acf.entry) }
+    requires { IsContent (F.seen files.old).held idl.entry.name.now text }
+    ensures asked { AsksAfter (files_over F.seen files.old files.new) (seen_idl idl.entry) (option_map (λ a. a.now) acf.entry) }
     ensures ok { IfOk result
-        (MeansAfter (files_over F.seen files.old files.new) (seen_idl idl) text (option_map (λ a. a.now) acf.entry)) }
+        (MeansAfter (files_over F.seen files.old files.new) (seen_idl idl.entry) text (option_map (λ a. a.now) acf.entry)) }
     ensures err { IfErr result
-        (IsTextCause (files_over F.seen files.old files.new) (seen_idl idl) text (option_map (λ a. a.now) acf.entry)) }
+        (IsTextCause (files_over F.seen files.old files.new) (seen_idl idl.entry) text (option_map (λ a. a.now) acf.entry)) }
     ensures later { (F.seen files.old).faults ≤ (F.seen files.new).faults }
     ensures absences_later { (F.seen files.old).absences ≤ (F.seen files.new).absences }
     ensures same { (F.seen files.new).held ≡ (F.seen files.old).held }
@@ -134,7 +134,7 @@ fn compile_text<F: Files>(
 
 // The main file alone.
 fn main_sources(alloc: Global, idl: IdlFile<'_>, text: Octets) -> Result<Sources, Memory>
-    ensures { IfOk result (λ sources. sources ≡ main_file (seen_idl idl) text) }
+    ensures { IfOk result (λ sources. sources ≡ main_file (seen_idl idl.entry) text) }
 {
     let mut sources = Sources::new(alloc);
     match sources.add(idl.name, text) {

@@ -39,14 +39,14 @@ pub fn compat_why<F: Files>(
     files: &mut F,
 ) -> Result<Octets, Incompatible>
     ensures asked { AsksBoth (files_over F.seen files.old files.new)
-        (record { idl = seen_idl old; acf = option_map (λ a. a.now) old_acf.entry })
-        (record { idl = seen_idl new; acf = option_map (λ a. a.now) new_acf.entry }) }
+        (record { idl = seen_idl old.entry; acf = option_map (λ a. a.now) old_acf.entry })
+        (record { idl = seen_idl new.entry; acf = option_map (λ a. a.now) new_acf.entry }) }
     ensures done { IfOk result (IsCompatible (files_over F.seen files.old files.new)
-        (record { idl = seen_idl old; acf = option_map (λ a. a.now) old_acf.entry })
-        (record { idl = seen_idl new; acf = option_map (λ a. a.now) new_acf.entry })) }
+        (record { idl = seen_idl old.entry; acf = option_map (λ a. a.now) old_acf.entry })
+        (record { idl = seen_idl new.entry; acf = option_map (λ a. a.now) new_acf.entry })) }
     ensures refused { IfErr result (IsIncompatible (files_over F.seen files.old files.new)
-        (record { idl = seen_idl old; acf = option_map (λ a. a.now) old_acf.entry })
-        (record { idl = seen_idl new; acf = option_map (λ a. a.now) new_acf.entry })) }
+        (record { idl = seen_idl old.entry; acf = option_map (λ a. a.now) old_acf.entry })
+        (record { idl = seen_idl new.entry; acf = option_map (λ a. a.now) new_acf.entry })) }
 {
     let versions = match compile_both(alloc, old, old_acf, new, new_acf, files) {
         Ok(versions) => versions,

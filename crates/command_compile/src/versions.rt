@@ -50,14 +50,14 @@ pub fn compat<F: Files>(
     files: &mut F,
 ) -> Result<Octets, Refusal>
     ensures asked { AsksBoth (files_over F.seen files.old files.new)
-        (record { idl = seen_idl old; acf = option_map (λ a. a.now) old_acf.entry })
-        (record { idl = seen_idl new; acf = option_map (λ a. a.now) new_acf.entry }) }
+        (record { idl = seen_idl old.entry; acf = option_map (λ a. a.now) old_acf.entry })
+        (record { idl = seen_idl new.entry; acf = option_map (λ a. a.now) new_acf.entry }) }
     ensures done { IfOk result (IsCompatible (files_over F.seen files.old files.new)
-        (record { idl = seen_idl old; acf = option_map (λ a. a.now) old_acf.entry })
-        (record { idl = seen_idl new; acf = option_map (λ a. a.now) new_acf.entry })) }
+        (record { idl = seen_idl old.entry; acf = option_map (λ a. a.now) old_acf.entry })
+        (record { idl = seen_idl new.entry; acf = option_map (λ a. a.now) new_acf.entry })) }
     ensures refused { IfErr result (IsCompatCause (files_over F.seen files.old files.new)
-        (record { idl = seen_idl old; acf = option_map (λ a. a.now) old_acf.entry })
-        (record { idl = seen_idl new; acf = option_map (λ a. a.now) new_acf.entry })) }
+        (record { idl = seen_idl old.entry; acf = option_map (λ a. a.now) old_acf.entry })
+        (record { idl = seen_idl new.entry; acf = option_map (λ a. a.now) new_acf.entry })) }
 {
     let versions = compile_both(alloc, old, old_acf, new, new_acf, files)?;
     answer(alloc, &versions.older, &versions.newer)
@@ -73,15 +73,15 @@ pub(crate) fn compile_both<F: Files>(
     files: &mut F,
 ) -> Result<Versions, Refusal>
     ensures asked { AsksBoth (files_over F.seen files.old files.new)
-        (record { idl = seen_idl old; acf = option_map (λ a. a.now) old_acf.entry })
-        (record { idl = seen_idl new; acf = option_map (λ a. a.now) new_acf.entry }) }
+        (record { idl = seen_idl old.entry; acf = option_map (λ a. a.now) old_acf.entry })
+        (record { idl = seen_idl new.entry; acf = option_map (λ a. a.now) new_acf.entry }) }
     ensures compiled { IfOk result (λ v. AreCompiled (files_over F.seen files.old files.new)
-        (record { idl = seen_idl old; acf = option_map (λ a. a.now) old_acf.entry })
-        (record { idl = seen_idl new; acf = option_map (λ a. a.now) new_acf.entry })
+        (record { idl = seen_idl old.entry; acf = option_map (λ a. a.now) old_acf.entry })
+        (record { idl = seen_idl new.entry; acf = option_map (λ a. a.now) new_acf.entry })
         v.older v.newer) }
     ensures refused { IfErr result (IsFilesCause (files_over F.seen files.old files.new)
-        (record { idl = seen_idl old; acf = option_map (λ a. a.now) old_acf.entry })
-        (record { idl = seen_idl new; acf = option_map (λ a. a.now) new_acf.entry })) }
+        (record { idl = seen_idl old.entry; acf = option_map (λ a. a.now) old_acf.entry })
+        (record { idl = seen_idl new.entry; acf = option_map (λ a. a.now) new_acf.entry })) }
 {
     let older = compile(alloc, old, old_acf, files)?;
     let newer = compile(alloc, new, new_acf, files)?;

@@ -116,8 +116,8 @@ fn command_of_count(words: &[String]) -> Option<Command<'_>>
 
 // A command with its interface files in the windows language, if there is one that names such files, and `--help`.
 fn if_windows(command: Option<Command<'_>>) -> Option<Command<'_>>
-    requires { IfSome command IsWellFormed }
-    ensures command { option_map command_of result ≡ if_in_windows (option_map command_of command) }
+    requires { IfSome command.entry IsWellFormed }
+    ensures command { option_map command_of result ≡ if_in_windows (option_map command_of command.entry) }
     ensures formed { IfSome result IsWellFormed }
 {
     match command {
@@ -186,7 +186,7 @@ fn if_windows(command: Option<Command<'_>>) -> Option<Command<'_>>
 
 // The same file in the windows language.
 fn in_windows(file: IdlFile<'_>) -> IdlFile<'_>
-    ensures { seen_idl result ≡ windows_file (seen_idl file) }
+    ensures { seen_idl result ≡ windows_file (seen_idl file.entry) }
 {
     IdlFile {
         name: file.name,

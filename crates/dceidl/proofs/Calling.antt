@@ -1,5 +1,6 @@
 -- What `call` and `wrap` answer, step by step.
 use Rattle.std.proofs.Common.{◌≡◌, ◌∙◌, ℕ, ◌<◌, ◌≤◌, ◌^◌, List, length, Option, Some, Result, Ok, Err, IfOk, IfErr, refl, ap, sym, subst, inr, arith}
+use Rattle.idl_grammar.specs.Files.{Idl}
 use Rattle.nd_base.specs.declared.TheConstants.{STREAM_LIMIT}
 use Rattle.nd_base.specs.declared.octets.Order.{Order}
 use Rattle.nd_base.specs.Over.{FilesOver, SourceOver}
@@ -22,11 +23,11 @@ use Rattle.dceidl.specs.declared.TheConstants.{WRAP_CHUNK}
 -- ## `call`
 
 -- an operation that was found is that of the response
-pub response_ready : (f : FilesOver) (idl : List ℕ) (acf : Option (List ℕ)) (op : List ℕ) (i : Interface) (n : ℕ) (o : Operation)
+pub response_ready : (f : FilesOver) (idl : Idl) (acf : Option (List ℕ)) (op : List ℕ) (i : Interface) (n : ℕ) (o : Operation)
     → IsFound f (record { idl = idl; acf = acf; op = op; side = Out }) i n o → IsCallReady f idl acf (Some op) i (Some n)
 response_ready f idl acf op i n o found = record { compiled = found.compiled; numbered = (n, o, found.named, refl) }
 
-module _ (f : FilesOver) (s : SourceOver) (idl : List ℕ) (acf op : Option (List ℕ)) (i : Interface) (number : Option ℕ) (ready : IsCallReady f idl acf op i number) where
+module _ (f : FilesOver) (s : SourceOver) (idl : Idl) (acf op : Option (List ℕ)) (i : Interface) (number : Option ℕ) (ready : IsCallReady f idl acf op i number) where
   pub called_done : (result : Result (List ℕ) Refusal) → IfOk result (IsCalled s i number) → IfOk result (HasCalled f s idl acf op)
   called_done (Ok made) h = (i, number, ready, h)
   called_done (Err e) h = tt

@@ -1,5 +1,6 @@
 -- What `compat` answers, from what its files mean: its statuses, the files that are due, and what must come where no load fails.
 use Rattle.std.proofs.Common.{◌≡◌, ◌∙◌, ℕ, List, [], ◌∷◌, Option, Some, None, refl, sym, ap, ap₂, subst, inl, inr, ◌⊎◌}
+use Rattle.idl_grammar.specs.Files.{Idl}
 use Rattle.nd_base.specs.Over.{IsMissing, FilesOver, HasRisen}
 use Rattle.nd_types.specs.declared.interface.Interface.{Interface}
 use Rattle.idl_compat.specs.declared.pairs.TypePair.{TypePair}
@@ -141,7 +142,7 @@ compat_failed f old new LongScript cause e = cc
 -- ## Where no load fails
 
 -- a cause over the rest of a run is one over the run
-over_all : (f : FilesOver) (mid : List (List ℕ)) (idl : List ℕ) (acf : Option (List ℕ)) (r : Refusal) → IsIdlCause (second_part f mid) idl acf r
+over_all : (f : FilesOver) (mid : List (List ℕ)) (idl : Idl) (acf : Option (List ℕ)) (r : Refusal) → IsIdlCause (second_part f mid) idl acf r
     → IsIdlCause f idl acf r
 over_all f mid idl acf Memory cause = cause
 over_all f mid idl acf (Absent file) cause = cause
@@ -215,7 +216,7 @@ no_reason i j why (c, h, e) m k = let never : None ≡ Some why = one_reason i (
 compiled_is : (f p : FilesOver) → p.held ≡ f.held → (named : FileNames) (i j : Interface) → IsHeldInterface f named i → IsCompiled p named.idl named.acf j → j ≡ i
 compiled_is f p same named i j h c =
     let (held, told, there) = h.held in
-    let own : IsHeld p named.idl h.file = (held, same ∙ told, there) in
+    let own : IsHeld p named.idl.name h.file = (held, same ∙ told, there) in
     one_interface held named.idl h.file named.acf j i
     (subst (λ (k : Contents). Means k named.idl h.file named.acf j) (same ∙ told) (means_here p named.idl h.file named.acf own j c))
     (subst (λ (k : Contents). Means k named.idl h.file named.acf i) told h.means)

@@ -1,5 +1,6 @@
 -- Which outcome a command has where no load fails and notes do not.
 use Rattle.std.proofs.Common.{◌≡◌, ℕ, ◌<◌, true, false, List, length, Option, Some, None, refl, sym, ◌∙◌, ap, subst, inl, inr, ◌⊎◌}
+use Rattle.idl_grammar.specs.Files.{Idl}
 use Rattle.nd_base.specs.declared.octets.Order.{Order}
 use Rattle.nd_base.specs.Over.{FilesOver, SourceOver, SinkOver, HasRisen, Got}
 use Rattle.nd_value.specs.Setting.{Setting}
@@ -376,7 +377,7 @@ module _ (x : Seen) (loads : HasRisen x.files.faults → ⊥) where
   -- ## Calls
 
   -- a response to the operation of a name
-  abbrev response_to : List ℕ → Option (List ℕ) → List ℕ → Subject
+  abbrev response_to : Idl → Option (List ℕ) → List ℕ → Subject
   response_to idl acf name = record { idl = idl; acf = acf; op = name; side = Out }
 
   same_operation_number : (op : Option (List ℕ)) (i j : Interface) (n m : Option ℕ) → meant_by j ≡ meant_by i → IsNumbered j op m → IsNumbered i op n → m ≡ n
@@ -384,7 +385,7 @@ module _ (x : Seen) (loads : HasRisen x.files.faults → ⊥) where
   same_operation_number (Some name) i j n m e (k, o, named, is) (k', o', named', is') =
       is ∙ ap (λ (z : ℕ). Some z) (same_number j i name k k' o o' e named named') ∙ sym is'
 
-  module _ (idl : List ℕ) (acf : Option (List ℕ)) where
+  module _ (idl : Idl) (acf : Option (List ℕ)) where
     -- what it speaks of is not refused where it is accepted
     call_files : (op : Option (List ℕ)) (i : Interface) (number : Option ℕ) → IsCallAccepted x.files idl acf op i number → (r : Refusal)
         → IsCallUnready x.files idl acf op r → r ≡ Memory

@@ -3,6 +3,7 @@ use Rattle.std.proofs.Common.{◌≡◌, ℕ, List, Option, Some, None, refl, sy
 use Rattle.std.specs.List.{slice_get}
 use Rattle.std.specs.Prelude.{option_map, true, false}
 use Rattle.std.proofs.lemmas.Option.{same_Some}
+use Rattle.idl_grammar.specs.Files.{Idl}
 use Rattle.nd_base.specs.Over.{IsContent, IsMissing, loaded, FilesOver, HasRisen}
 use Rattle.nd_types.specs.declared.interface.Interface.{Interface}
 use Rattle.nd_types.specs.declared.types.Operation.{Operation}
@@ -42,7 +43,7 @@ held_there f name file (held, told, there) missing =
     cc
 
 -- The main file is held: what its files mean, and how they are refused.
-module _ (f : FilesOver) (idl text : List ℕ) (acf : Option (List ℕ)) (held : IsHeld f idl text) where
+module _ (f : FilesOver) (idl : Idl) (text : List ℕ) (acf : Option (List ℕ)) (held : IsHeld f idl.name text) where
   -- they mean one interface, as far as it is read from them
   pub one_meaning : (i j : Interface) → Means f.held idl text acf i → Means f.held idl text acf j → meant_by i ≡ meant_by j
   one_meaning i j x y =
@@ -58,18 +59,18 @@ module _ (f : FilesOver) (idl text : List ℕ) (acf : Option (List ℕ)) (held :
 
   -- where a file that is due is missing they mean nothing, and are refused at no line and column
   absent_meaning : {B : Type 0} (file : List ℕ) (i : Interface) → IsDueFile f.held idl acf file → IsMissing f.held file → Means f.held idl text acf i → B
-  absent_meaning file i (inl is) missing x = absurd (held_there f idl text held (subst (IsMissing f.held) is missing))
+  absent_meaning file i (inl is) missing x = absurd (held_there f idl.name text held (subst (IsMissing f.held) is missing))
   absent_meaning file i (inr (other, content, due)) missing x =
-      let own : IsDueAfter f.held idl text acf file = subst (λ t. IsDueAfter f.held idl t acf file) (held_only f idl text other held content) due in
+      let own : IsDueAfter f.held idl text acf file = subst (λ t. IsDueAfter f.held idl t acf file) (held_only f idl.name text other held content) due in
       absent_or_means held.0 idl text acf file i
       (subst (λ (h : Contents). IsDueAfter h idl text acf file) held.1 own)
       (subst (λ (h : Contents). IsMissing h file) held.1 missing)
       (subst (λ (h : Contents). Means h idl text acf i) held.1 x)
 
   absent_fault : {B : Type 0} (file : List ℕ) (r : Refusal) → IsBad r → IsDueFile f.held idl acf file → IsMissing f.held file → IsIdlFault f.held idl text acf r → B
-  absent_fault file r bad (inl is) missing x = absurd (held_there f idl text held (subst (IsMissing f.held) is missing))
+  absent_fault file r bad (inl is) missing x = absurd (held_there f idl.name text held (subst (IsMissing f.held) is missing))
   absent_fault file r bad (inr (other, content, due)) missing x =
-      let own : IsDueAfter f.held idl text acf file = subst (λ t. IsDueAfter f.held idl t acf file) (held_only f idl text other held content) due in
+      let own : IsDueAfter f.held idl text acf file = subst (λ t. IsDueAfter f.held idl t acf file) (held_only f idl.name text other held content) due in
       absent_or_bad held.0 idl text acf file r bad
       (subst (λ (h : Contents). IsDueAfter h idl text acf file) held.1 own)
       (subst (λ (h : Contents). IsMissing h file) held.1 missing)
@@ -77,10 +78,10 @@ module _ (f : FilesOver) (idl text : List ℕ) (acf : Option (List ℕ)) (held :
 
   -- what was loaded and means an interface is this file
   pub means_here : (i : Interface) → IsCompiled f idl acf i → Means f.held idl text acf i
-  means_here i c = subst (λ t. Means f.held idl t acf i) (held_only f idl text c.file held c.loaded) c.means
+  means_here i c = subst (λ t. Means f.held idl t acf i) (held_only f idl.name text c.file held c.loaded) c.means
 
-  fault_here : (r : Refusal) (other : List ℕ) → IsContent f.held idl other → IsIdlFault f.held idl other acf r → IsIdlFault f.held idl text acf r
-  fault_here r other content x = subst (λ t. IsIdlFault f.held idl t acf r) (held_only f idl text other held content) x
+  fault_here : (r : Refusal) (other : List ℕ) → IsContent f.held idl.name other → IsIdlFault f.held idl other acf r → IsIdlFault f.held idl text acf r
+  fault_here r other content x = subst (λ t. IsIdlFault f.held idl t acf r) (held_only f idl.name text other held content) x
 
 -- interfaces of one meaning have the same operations by name and number
 pub same_number : (i j : Interface) (op : List ℕ) (n m : ℕ) (o q : Operation) → meant_by i ≡ meant_by j → IsNamed i op n o → IsNamed j op m q → n ≡ m
@@ -98,9 +99,9 @@ unknown_or_named i j op n o e none named =
 
 -- ## The files of a command
 
-module _ (f : FilesOver) (idl : List ℕ) (acf : Option (List ℕ)) (loads : HasRisen f.faults → ⊥) where
+module _ (f : FilesOver) (idl : Idl) (acf : Option (List ℕ)) (loads : HasRisen f.faults → ⊥) where
   -- files that mean an interface are not refused
-  pub compiled_cause : (text : List ℕ) (i : Interface) → IsHeld f idl text → Means f.held idl text acf i → (r : Refusal) → IsIdlCause f idl acf r → r ≡ Memory
+  pub compiled_cause : (text : List ℕ) (i : Interface) → IsHeld f idl.name text → Means f.held idl text acf i → (r : Refusal) → IsIdlCause f idl acf r → r ≡ Memory
   compiled_cause text i held means Memory cause = refl
   compiled_cause text i held means (Absent file) (rose, due, missing) = absent_meaning f idl text acf held file i due missing means
   compiled_cause text i held means (FileFailed file) (rose, due) = absurd (loads rose)

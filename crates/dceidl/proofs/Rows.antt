@@ -1,6 +1,7 @@
 -- The rows of a run follow from the whole of it: each goes by the way in which the run ended.
 use Rattle.std.proofs.Common.{◌≡◌, ◌∙◌, ℕ, List, [], ◌∷◌, Option, Some, None, refl, sym, ap, subst, inl, inr, ◌⊎◌}
 use Rattle.std.specs.Prelude.{◌≢◌, Bool, true, false, codes}
+use Rattle.idl_grammar.specs.Files.{Idl}
 use Rattle.nd_base.specs.Over.{IsMissing, FilesOver, SourceOver, SinkOver, HasRisen, Got, Rose}
 use Rattle.command_streams.specs.declared.outcome.Outcome.{Outcome}
 use Rattle.command_streams.specs.declared.outcome.Outcome.TheVariants.{Done, Refused, Reported, Wanting}
@@ -246,7 +247,7 @@ five_of_values : (t : Bool) (status : ℕ) → status ≡ 5 → IsOneOf (values_
 five_of_values true status e = inr (inr (inr (inr (inl e))))
 five_of_values false status e = inr (inr (inr (inr (inl e))))
 
-of_files : (f : FilesOver) (idl : List ℕ) (acf : Option (List ℕ)) (status : ℕ) (r : Refusal) → IsIdlCause f idl acf r → status ≡ status_of r → OfFiles status
+of_files : (f : FilesOver) (idl : Idl) (acf : Option (List ℕ)) (status : ℕ) (r : Refusal) → IsIdlCause f idl acf r → status ≡ status_of r → OfFiles status
 of_files f idl acf status Memory cause e = inr (inr (inl e))
 of_files f idl acf status (Absent file) cause e = inr (inr (inr (inr (inl e))))
 of_files f idl acf status (FileFailed file) cause e = inr (inr (inr (inr (inr (inl e)))))
@@ -286,7 +287,7 @@ ends_drain x (Encode word chunk) of given which (inr (w, ready, (text, read, cau
 ends_drain x Migrate of given which (inr (w, ready, (text, read, cause))) = absurd cause
 
 -- `call` and `wrap` call no end
-call_ends : (x : Seen) (idl : List ℕ) (acf op : Option (List ℕ)) (which : ℕ) → IsNoCall x.files x.input idl acf op (EndFailed which) → ⊥
+call_ends : (x : Seen) (idl : Idl) (acf op : Option (List ℕ)) (which : ℕ) → IsNoCall x.files x.input idl acf op (EndFailed which) → ⊥
 call_ends x idl acf None which (inl (cause, before)) = cause
 call_ends x idl acf (Some name) which (inl (cause, before)) = cause
 call_ends x idl acf op which (inr (i, number, ready, cause)) = cause
@@ -425,7 +426,7 @@ of_refusal x out notes status words run n e (zero, one, two, four, five) = by (c
 
 module _ (x : Seen) where
   -- files alone are no input
-  idl_read : (idl : List ℕ) (acf : Option (List ℕ)) (r : Refusal) → IsIdlCause x.files idl acf r → status_of r ≡ 3 → ⊥
+  idl_read : (idl : Idl) (acf : Option (List ℕ)) (r : Refusal) → IsIdlCause x.files idl acf r → status_of r ≡ 3 → ⊥
   idl_read idl acf ReadFault cause e = absurd cause
   idl_read idl acf Memory cause e = cc
   idl_read idl acf (Absent file) cause e = cc
@@ -459,7 +460,7 @@ module _ (x : Seen) where
   octets_failed s ends Trace word w (inr (rest, order, opened, rose)) = opened_failed s rest word order opened rose
   octets_failed s ends Drain word w (inr (rest, order, opened, (rose, enough, cause))) = opened_failed s rest word order opened rose
 
-  call_read : (idl : List ℕ) (acf op : Option (List ℕ)) (r : Refusal) → IsNoCall x.files x.input idl acf op r → status_of r ≡ 3 → HasRisen x.input.faults
+  call_read : (idl : Idl) (acf op : Option (List ℕ)) (r : Refusal) → IsNoCall x.files x.input idl acf op r → status_of r ≡ 3 → HasRisen x.input.faults
   call_read idl acf None ReadFault (inl (cause, before)) e = absurd cause
   call_read idl acf (Some name) ReadFault (inl (cause, before)) e = absurd cause
   call_read idl acf op ReadFault (inr (i, number, ready, h)) e = h.failed
@@ -541,7 +542,7 @@ module _ (x : Seen) where
   read_fault Version r cause e = let never : status_of Memory ≡ 3 = sym (ap status_of cause) ∙ e in cc
 
   -- a file of an interface that is absent is due and missing
-  idl_absent : (idl : List ℕ) (acf : Option (List ℕ)) (r : Refusal) → IsIdlCause x.files idl acf r → status_of r ≡ 7
+  idl_absent : (idl : Idl) (acf : Option (List ℕ)) (r : Refusal) → IsIdlCause x.files idl acf r → status_of r ≡ 7
       → HasRisen x.files.absences × ((file : List ℕ) × (r ≡ Absent file) × IsDueOf x.files.held (Some (record { idl = idl; acf = acf })) file × IsMissing x.files.held file)
   idl_absent idl acf (Absent file) (rose, due, missing) e = (rose, (file, refl, due, missing))
   idl_absent idl acf Memory cause e = cc
@@ -563,7 +564,7 @@ module _ (x : Seen) where
   idl_absent idl acf (BadScript row) cause e = cc
   idl_absent idl acf LongScript cause e = cc
 
-  call_absent : (idl : List ℕ) (acf op : Option (List ℕ)) (r : Refusal) → IsNoCall x.files x.input idl acf op r → status_of r ≡ 7
+  call_absent : (idl : Idl) (acf op : Option (List ℕ)) (r : Refusal) → IsNoCall x.files x.input idl acf op r → status_of r ≡ 7
       → HasRisen x.files.absences × ((file : List ℕ) × (r ≡ Absent file) × IsDueOf x.files.held (Some (record { idl = idl; acf = acf })) file × IsMissing x.files.held file)
   call_absent idl acf None (Absent file) (inl ((rose, due, missing), before)) e = (rose, (file, refl, due, missing))
   call_absent idl acf (Some name) (Absent file) (inl ((rose, due, missing), before)) e = (rose, (file, refl, due, missing))
@@ -675,7 +676,7 @@ module _ (x : Seen) where
   absent_is Version r cause e = let never : status_of Memory ≡ 7 = sym (ap status_of cause) ∙ e in cc
 
   -- a file of an interface that was not read is due
-  idl_failed : (idl : List ℕ) (acf : Option (List ℕ)) (r : Refusal) → IsIdlCause x.files idl acf r → status_of r ≡ 9
+  idl_failed : (idl : Idl) (acf : Option (List ℕ)) (r : Refusal) → IsIdlCause x.files idl acf r → status_of r ≡ 9
       → HasRisen x.files.faults × ((file : List ℕ) × (r ≡ FileFailed file) × IsDueOf x.files.held (Some (record { idl = idl; acf = acf })) file)
   idl_failed idl acf (FileFailed file) (rose, due) e = (rose, (file, refl, due))
   idl_failed idl acf Memory cause e = cc
@@ -697,7 +698,7 @@ module _ (x : Seen) where
   idl_failed idl acf (BadScript row) cause e = cc
   idl_failed idl acf LongScript cause e = cc
 
-  call_failed : (idl : List ℕ) (acf op : Option (List ℕ)) (r : Refusal) → IsNoCall x.files x.input idl acf op r → status_of r ≡ 9
+  call_failed : (idl : Idl) (acf op : Option (List ℕ)) (r : Refusal) → IsNoCall x.files x.input idl acf op r → status_of r ≡ 9
       → HasRisen x.files.faults × ((file : List ℕ) × (r ≡ FileFailed file) × IsDueOf x.files.held (Some (record { idl = idl; acf = acf })) file)
   call_failed idl acf None (FileFailed file) (inl ((rose, due), before)) e = (rose, (file, refl, due))
   call_failed idl acf (Some name) (FileFailed file) (inl ((rose, due), before)) e = (rose, (file, refl, due))

@@ -66,7 +66,7 @@ pub record IsRequestDue (held : Option (List ℕ → Option (List ℕ))) (of : S
   pub file : List ℕ
   pub interface : Interface
   pub number : ℕ
-  pub loaded : IsContent held of.idl file
+  pub loaded : IsContent held of.idl.name file
   pub means : Means held of.idl file of.acf interface
   pub known : operation_named interface.operations of.op ≡ Some number
 

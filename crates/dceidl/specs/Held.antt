@@ -1,5 +1,6 @@
 -- Files that are held, what they mean, and what must come of two versions of an interface that are held.
 use Rattle.std.specs.Prelude.{◌≡◌, ◌⊎◌, ℕ, false, List, [], Option, Some, None, option_map, ⊤}
+use Rattle.idl_grammar.specs.Files.{Idl}
 use Rattle.nd_base.specs.Over.{loaded, FilesOver, IsContent}
 use Rattle.nd_types.specs.declared.interface.Interface.{Interface}
 use Rattle.idl_compat.specs.declared.pairs.TypePair.{TypePair}
@@ -25,13 +26,13 @@ IsHeld f name file = (held : List ℕ → Option (List ℕ)) × (f.held ≡ Some
 -- The main file is held, and the files mean this interface.
 pub record IsHeldInterface (f : FilesOver) (named : FileNames) (i : Interface) : Type 0 where
   pub file : List ℕ
-  pub held : IsHeld f named.idl file
+  pub held : IsHeld f named.idl.name file
   pub means : Means f.held named.idl file named.acf i
 
 -- the main file is held, and the files are refused in this way
-abbrev pub MustBeNoIdl : FilesOver → List ℕ → Option (List ℕ) → Refusal → Type 0
+abbrev pub MustBeNoIdl : FilesOver → Idl → Option (List ℕ) → Refusal → Type 0
 MustBeNoIdl f idl acf (BadIdl file line column why) =
-    (text : List ℕ) × IsHeld f idl text × IsIdlFault f.held idl text acf (BadIdl file line column why)
+    (text : List ℕ) × IsHeld f idl.name text × IsIdlFault f.held idl text acf (BadIdl file line column why)
 MustBeNoIdl f idl acf _ = ⊥
 
 -- ## When two versions must be found compatible, and when they must be refused
@@ -64,7 +65,7 @@ MustBeIncomparable f old new _ = ⊥
 -- the file of a name is due once the files of the first mean an interface: it is one of the second
 abbrev pub IsDueSecond : Option (List ℕ → Option (List ℕ)) → FileNames → FileNames → List ℕ → Type 0
 IsDueSecond held old new name =
-    (text : List ℕ) × (i : Interface) × IsContent held old.idl text × Means held old.idl text old.acf i × IsDueFile held new.idl new.acf name
+    (text : List ℕ) × (i : Interface) × IsContent held old.idl.name text × Means held old.idl text old.acf i × IsDueFile held new.idl new.acf name
 
 -- a command does not ask for the first place at which versions differ
 abbrev pub HasNoPlace : Command → Type 0

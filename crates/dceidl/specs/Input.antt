@@ -1,6 +1,7 @@
 -- What the commands on values make of texts and of the input, and why these are refused.
 use Rattle.std.specs.Prelude.{◌≡◌, ◌⊎◌, ℕ, ◌+◌, ◌<◌, ◌≤◌, true, List, [], ◌∷◌, ◌++◌, length, Option, Some, None, Ok, ⊤}
 use Rattle.std.specs.Io.KnownBytes.{Consumes, IsAtEnd}
+use Rattle.idl_grammar.specs.Files.{Idl}
 use Rattle.nd_base.specs.declared.octets.Order.{Order}
 use Rattle.nd_base.specs.Over.{FilesOver, SourceOver, HasRisen, IsUntouched}
 use Rattle.nd_types.specs.declared.interface.Interface.{Interface}
@@ -164,11 +165,11 @@ IsBesideCause f s e name task w r =
 -- ### `call`
 
 -- the files mean an interface, and the input is printed as a call
-abbrev pub HasCalled : FilesOver → SourceOver → List ℕ → Option (List ℕ) → Option (List ℕ) → List ℕ → Type 0
+abbrev pub HasCalled : FilesOver → SourceOver → Idl → Option (List ℕ) → Option (List ℕ) → List ℕ → Type 0
 HasCalled f s idl acf op made = (i : Interface) × (number : Option ℕ) × IsCallReady f idl acf op i number × IsCalled s i number made
 
 -- why it is not: the files are refused before the input is touched, or the input is
-abbrev pub IsNoCall : FilesOver → SourceOver → List ℕ → Option (List ℕ) → Option (List ℕ) → Refusal → Type 0
+abbrev pub IsNoCall : FilesOver → SourceOver → Idl → Option (List ℕ) → Option (List ℕ) → Refusal → Type 0
 IsNoCall f s idl acf op r =
     (IsCallUnready f idl acf op r × IsUntouched s)
     ⊎ ((i : Interface) × (number : Option ℕ) × IsCallReady f idl acf op i number × IsCallCause s i number r)

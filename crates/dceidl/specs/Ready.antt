@@ -1,6 +1,7 @@
 -- When the files and the operation that a command speaks of are ready, and why they are refused.
 use Rattle.std.specs.Prelude.{◌≡◌, ◌⊎◌, ℕ, List, [], ◌∷◌, ◌++◌, Option, None, Some}
 use Rattle.std.specs.List.{slice_get}
+use Rattle.idl_grammar.specs.Files.{Idl}
 use Rattle.nd_base.specs.Over.{FilesOver}
 use Rattle.nd_types.specs.declared.interface.Interface.{Interface}
 use Rattle.nd_types.specs.declared.types.Operation.{Operation}
@@ -56,12 +57,12 @@ IsNumbered i None number = number ≡ None
 IsNumbered i (Some name) number = (n : ℕ) × (o : Operation) × IsNamed i name n o × (number ≡ Some n)
 
 -- What `call` speaks of is ready: the interface, and the number of the operation if one is named.
-pub record IsCallReady (f : FilesOver) (idl : List ℕ) (acf op : Option (List ℕ)) (i : Interface) (number : Option ℕ) : Type 0 where
+pub record IsCallReady (f : FilesOver) (idl : Idl) (acf op : Option (List ℕ)) (i : Interface) (number : Option ℕ) : Type 0 where
   pub compiled : IsCompiled f idl acf i
   pub numbered : IsNumbered i op number
 
 -- why it is not
-abbrev pub IsCallUnready : FilesOver → List ℕ → Option (List ℕ) → Option (List ℕ) → Refusal → Type 0
+abbrev pub IsCallUnready : FilesOver → Idl → Option (List ℕ) → Option (List ℕ) → Refusal → Type 0
 IsCallUnready f idl acf None r = IsIdlCause f idl acf r
 IsCallUnready f idl acf (Some op) r = IsReadyCause f (record { idl = idl; acf = acf; op = op; side = Out }) r
 

@@ -1,6 +1,7 @@
 -- What the clauses of `run` say, each for all commands at once: of a status by itself, and of what comes where nothing fails.
 use Rattle.std.specs.Prelude.{◌≡◌, ◌⊎◌, ℕ, ◌+◌, ◌<◌, ◌++◌, Err, length, Bool, true, false, List, [], ◌∷◌, codes, decimal, take, Option, None, Some, ⊤}
 use Rattle.std.specs.List.{slice_get}
+use Rattle.idl_grammar.specs.Files.{Idl}
 use Rattle.nd_base.specs.declared.octets.Order.{Order}
 use Rattle.nd_base.specs.Over.{IsMissing, FilesOver, SourceOver, SinkOver, HasRisen, Got, IsAsBefore, Rose}
 use Rattle.nd_types.specs.declared.interface.Interface.{Interface}
@@ -171,7 +172,7 @@ pub record IsAccepted (f : FilesOver) (of : Subject) (w : Setting) : Type 0 wher
   pub interface : Interface
   pub number : ℕ
   pub operation : Operation
-  pub held : IsHeld f of.idl file
+  pub held : IsHeld f of.idl.name file
   pub means : Means f.held of.idl file of.acf interface
   pub named : IsNamed interface of.op number operation
   pub setting_is : w ≡ setting_of interface operation of.side
@@ -225,9 +226,9 @@ CanBeMade s e (Encode word chunk) w =
 CanBeMade s e Migrate w = (text : List ℕ) × (g : Graph) × IsInput s TEXT_LIMIT text × ReadsAs w text g × Conforms w g
 
 -- The main file is held, the files mean this interface, and it has the operation if one is named.
-pub record IsCallAccepted (f : FilesOver) (idl : List ℕ) (acf op : Option (List ℕ)) (i : Interface) (number : Option ℕ) : Type 0 where
+pub record IsCallAccepted (f : FilesOver) (idl : Idl) (acf op : Option (List ℕ)) (i : Interface) (number : Option ℕ) : Type 0 where
   pub file : List ℕ
-  pub held : IsHeld f idl file
+  pub held : IsHeld f idl.name file
   pub means : Means f.held idl file acf i
   pub numbered : IsNumbered i op number
 
@@ -249,8 +250,8 @@ abbrev pub CanBeDone : Seen → Command → Type 0
 CanBeDone x (Values task of given) = (w : Setting) × AreAccepted x.files of given w × CanBeMade x.input x.ends task w
 CanBeDone x (Call idl acf op) = (i : Interface) × (number : Option ℕ) × IsCallAccepted x.files idl acf op i number × CanBeCalled x.input i number
 CanBeDone x (Wrap of order call max) = (w : Setting) × IsAccepted x.files of w × CanBeMade x.input x.ends (wrap_task order) w
-CanBeDone x (Compile idl acf) = (text : List ℕ) × (i : Interface) × IsHeld x.files idl text × Means x.files.held idl text acf i
-CanBeDone x (Plan idl acf) = (text : List ℕ) × (i : Interface) × IsHeld x.files idl text × Means x.files.held idl text acf i
+CanBeDone x (Compile idl acf) = (text : List ℕ) × (i : Interface) × IsHeld x.files idl.name text × Means x.files.held idl text acf i
+CanBeDone x (Plan idl acf) = (text : List ℕ) × (i : Interface) × IsHeld x.files idl.name text × Means x.files.held idl text acf i
 CanBeDone x (Compat old old_acf new new_acf why) = CanBeCompared x.files (record { idl = old; acf = old_acf }) (record { idl = new; acf = new_acf })
 CanBeDone x (Why words) = (text : List ℕ) × (explained words ≡ Found text)
 CanBeDone x (Sample seed count) = ⊤
@@ -260,7 +261,7 @@ CanBeDone x Version = ⊤
 -- what a command on values speaks of is refused in this way
 abbrev pub MustBeUnready : FilesOver → Subject → Refusal → Type 0
 MustBeUnready f of NoOperation =
-    (text : List ℕ) × (i : Interface) × IsHeld f of.idl text × Means f.held of.idl text of.acf i × (operation_named i.operations of.op ≡ None)
+    (text : List ℕ) × (i : Interface) × IsHeld f of.idl.name text × Means f.held of.idl text of.acf i × (operation_named i.operations of.op ≡ None)
 MustBeUnready f of r = MustBeNoIdl f of.idl of.acf r
 
 -- the octets are refused at a place, or the first of them are a stream of a graph that conforms and an octet follows
@@ -310,7 +311,7 @@ MustBeNoInput s e (Encode word chunk) w r = MustBeNoEncoding s w chunk r
 MustBeNoInput s e Migrate w r = MustBeNoText s w r
 
 -- the files or the operation of `call` are refused in this way
-abbrev pub MustBeNoCall : FilesOver → List ℕ → Option (List ℕ) → Option (List ℕ) → Refusal → Type 0
+abbrev pub MustBeNoCall : FilesOver → Idl → Option (List ℕ) → Option (List ℕ) → Refusal → Type 0
 MustBeNoCall f idl acf None r = MustBeNoIdl f idl acf r
 MustBeNoCall f idl acf (Some op) r = MustBeUnready f (record { idl = idl; acf = acf; op = op; side = Out }) r
 

@@ -1,6 +1,7 @@
 // `compat .. why`: two versions are compared, and the first place at which they differ is written beside the refusal.
 ghost use Rattle.std.specs.Prelude.{◌≡◌, true, false, option_map, IfSome, IfNone};
 ghost use Rattle.nd_base.specs.Over.{FilesOver, files_over};
+ghost use Rattle.idl_grammar.specs.Files.{seen_idl};
 ghost use Rattle.command_compile.specs.Compiled.{FileNames};
 ghost use Rattle.command_compile.specs.Compat.{AsksBoth, IsIncompatible};
 ghost use Rattle.command_line.specs.Commands.{command_of};
@@ -11,22 +12,23 @@ use command_compile::{Incompatible, compat_why};
 use command_line::Command;
 use command_refusals::{line, status};
 use command_streams::Outcome;
+use idl_grammar::IdlFile;
 use nd_base::Files;
 use std::alloc::Global;
 
 // The files of two versions.
 #[derive(Clone, Copy)]
 pub(crate) struct Versions<'a> {
-    pub(crate) old: &'a str,
+    pub(crate) old: IdlFile<'a>,
     pub(crate) old_acf: Option<&'a str>,
-    pub(crate) new: &'a str,
+    pub(crate) new: IdlFile<'a>,
     pub(crate) new_acf: Option<&'a str>,
 }
 
 // The versions of a command that asks for the first place at which they differ.
 pub(crate) fn asked_versions(command: Command<'_>) -> Option<Versions<'_>>
     ensures some { IfSome result (λ v. command_of command.entry
-        ≡ Compat v.old.now (option_map (λ a. a.now) v.old_acf) v.new.now (option_map (λ a. a.now) v.new_acf) true) }
+        ≡ Compat (seen_idl v.old) (option_map (λ a. a.now) v.old_acf) (seen_idl v.new) (option_map (λ a. a.now) v.new_acf) true) }
     ensures none { IfNone result (HasNoPlace (command_of command.entry)) }
 {
     match command {
@@ -62,11 +64,11 @@ pub(crate) fn asked_versions(command: Command<'_>) -> Option<Versions<'_>>
 // What the comparison of two versions comes to.
 pub(crate) fn compared<F: Files>(alloc: Global, versions: Versions<'_>, files: &mut F) -> Outcome
     ensures asked { AsksBoth (files_over F.seen files.old files.new)
-        (record { idl = versions.entry.old.now; acf = option_map (λ a. a.now) versions.entry.old_acf })
-        (record { idl = versions.entry.new.now; acf = option_map (λ a. a.now) versions.entry.new_acf }) }
+        (record { idl = seen_idl versions.entry.old; acf = option_map (λ a. a.now) versions.entry.old_acf })
+        (record { idl = seen_idl versions.entry.new; acf = option_map (λ a. a.now) versions.entry.new_acf }) }
     ensures outcome { IsComparedOutcome (files_over F.seen files.old files.new)
-        (record { idl = versions.entry.old.now; acf = option_map (λ a. a.now) versions.entry.old_acf })
-        (record { idl = versions.entry.new.now; acf = option_map (λ a. a.now) versions.entry.new_acf }) result }
+        (record { idl = seen_idl versions.entry.old; acf = option_map (λ a. a.now) versions.entry.old_acf })
+        (record { idl = seen_idl versions.entry.new; acf = option_map (λ a. a.now) versions.entry.new_acf }) result }
 {
     match compat_why(
         alloc,

@@ -12,6 +12,7 @@ ghost use Rattle.nd_value.specs.Fitting.{setting_of, setting_beside};
 ghost use Rattle.text_grammar.specs.declared.TheConstants.{TEXT_LIMIT};
 ghost use Rattle.text_grammar.specs.Reads.{ReadsAs};
 ghost use Rattle.text_grammar.specs.Written.{IsText};
+ghost use Rattle.idl_grammar.specs.Files.{Idl};
 ghost use Rattle.command_decode.specs.Decoded.{IsDecoding};
 ghost use Rattle.ndr_prim.specs.Label.{order_of_label};
 ghost use Rattle.command_line.specs.Words.{Subject, order_in};
@@ -32,15 +33,15 @@ use value_text::laws::same_texts;
 /// Where the contents of files are known, a main file means one interface at most with those that it imports, with an attribute configuration file
 /// if one is named, or is refused at one line and column of one file for one reason at most, and never both.
 pub fn one_idl_verdict()
-    ensures one_interface { (held : List ℕ → Option (List ℕ)) (idl text : List ℕ) (acf : Option (List ℕ)) (i j : Interface)
+    ensures one_interface { (held : List ℕ → Option (List ℕ)) (idl : Idl) (text : List ℕ) (acf : Option (List ℕ)) (i j : Interface)
         → Means (Some held) idl text acf i → Means (Some held) idl text acf j → i ≡ j }
-    ensures one_fault { (held : List ℕ → Option (List ℕ)) (idl text : List ℕ) (acf : Option (List ℕ)) (file other : List ℕ)
+    ensures one_fault { (held : List ℕ → Option (List ℕ)) (idl : Idl) (text : List ℕ) (acf : Option (List ℕ)) (file other : List ℕ)
         (line column row place : ℕ)
         → (why because : IdlReason)
         → IsIdlFault (Some held) idl text acf (refusal.BadIdl file line column why)
         → IsIdlFault (Some held) idl text acf (refusal.BadIdl other row place because)
         → refusal.BadIdl file line column why ≡ refusal.BadIdl other row place because }
-    ensures never_both { (held : List ℕ → Option (List ℕ)) (idl text : List ℕ) (acf : Option (List ℕ)) (i : Interface) (file : List ℕ)
+    ensures never_both { (held : List ℕ → Option (List ℕ)) (idl : Idl) (text : List ℕ) (acf : Option (List ℕ)) (i : Interface) (file : List ℕ)
         → (line column : ℕ) (why : IdlReason)
         → Means (Some held) idl text acf i → IsIdlFault (Some held) idl text acf (refusal.BadIdl file line column why) → ⊥ }
 {}
@@ -49,11 +50,11 @@ pub fn one_idl_verdict()
 /// they mean with each that was loaded and read and keeps the rule on it; and where the contents of files are known they mean one interface
 /// whatever is named.
 pub fn attribute_files_change_nothing()
-    ensures without { (held : Option (List ℕ → Option (List ℕ))) (idl text : List ℕ) (acf : Option (List ℕ)) (i : Interface)
+    ensures without { (held : Option (List ℕ → Option (List ℕ))) (idl : Idl) (text : List ℕ) (acf : Option (List ℕ)) (i : Interface)
         → Means held idl text acf i → Means held idl text None i }
-    ensures beside { (held : Option (List ℕ → Option (List ℕ))) (idl text name : List ℕ) (i : Interface) → (m : Means held idl text None i)
+    ensures beside { (held : Option (List ℕ → Option (List ℕ))) (idl : Idl) (text name : List ℕ) (i : Interface) → (m : Means held idl text None i)
         → (f : AcfFile) → IsLoadedAcf held name f → acf_breaches (resolved_world m.state) (Some f.tree) ≡ [] → Means held idl text (Some name) i }
-    ensures same { (held : List ℕ → Option (List ℕ)) (idl text : List ℕ) (acf other : Option (List ℕ)) (i j : Interface)
+    ensures same { (held : List ℕ → Option (List ℕ)) (idl : Idl) (text : List ℕ) (acf other : Option (List ℕ)) (i j : Interface)
         → Means (Some held) idl text acf i → Means (Some held) idl text other j → i ≡ j }
 {}
 

@@ -13,7 +13,7 @@ ghost use Rattle.dceidl.specs.Rows.{IsDone, IsRefused, AreUnknown, tells_refused
 ghost use Rattle.dceidl.specs.Rows.{HasNotFailed, IsSound, CanBeDone, MustBeRefused, Refuses};
 ghost use Rattle.command_streams.specs.Delivery.{IsOneOf, IsCompleted};
 ghost use Rattle.dceidl.specs.Run.{IsOutcome, IsCommandOutcome, IsExplanation, HasRun};
-ghost use Rattle.command_line.specs.Words.{Command as Wanted, command, counted_command, idl_of, op_of, name_in as name_or_nothing};
+ghost use Rattle.command_line.specs.Words.{Command as Wanted, command, worded_command, idl_of, op_of, name_in as name_or_nothing};
 
 use crate::compared::{asked_versions, compared};
 use crate::perform::perform;
@@ -206,10 +206,10 @@ fn performed<F: Files, S: Source, E: PipeEnd>(
     requires open { AreOpen (ends_seen E.seen ends.old) }
     ensures asked { Asks
         (seen_over (files_over F.seen files.old files.new) (source_over S.seen input.old input.new)
-        (ends_over E.seen ends.old ends.new)) (counted_command words.now) }
+        (ends_over E.seen ends.old ends.new)) (worded_command words.now) }
     ensures outcome { IsOutcome
         (seen_over (files_over F.seen files.old files.new) (source_over S.seen input.old input.new)
-        (ends_over E.seen ends.old ends.new)) (counted_command words.now) result }
+        (ends_over E.seen ends.old ends.new)) (worded_command words.now) result }
 {
     match words.command() {
         None => refused(alloc, WORDS_REFUSED, b"words refused\n"),
@@ -296,11 +296,11 @@ fn command_line(alloc: Global, command: Command<'_>, refusal: &Refusal) -> Resul
     ensures { IfOk result (λ l. l ≡ line_of (idl_of (command_of command.entry)) (op_of (command_of command.entry)) refusal.now) }
 {
     match command {
-        Command::Values { of, .. } => line(alloc, of.idl, of.op, refusal),
-        Command::Compile { idl, .. } => line(alloc, idl, "", refusal),
-        Command::Plan { idl, .. } => line(alloc, idl, "", refusal),
-        Command::Call { idl, op, .. } => line(alloc, idl, name_in(op), refusal),
-        Command::Wrap { of, .. } => line(alloc, of.idl, of.op, refusal),
+        Command::Values { of, .. } => line(alloc, of.idl.name, of.op, refusal),
+        Command::Compile { idl, .. } => line(alloc, idl.name, "", refusal),
+        Command::Plan { idl, .. } => line(alloc, idl.name, "", refusal),
+        Command::Call { idl, op, .. } => line(alloc, idl.name, name_in(op), refusal),
+        Command::Wrap { of, .. } => line(alloc, of.idl.name, of.op, refusal),
         Command::Compat { .. } => line(alloc, "", "", refusal),
         Command::Sample { .. } => line(alloc, "", "", refusal),
         Command::Help => line(alloc, "", "", refusal),

@@ -93,13 +93,13 @@ pub(crate) fn traced<F: Files, S: Source>(
     match prepare(alloc, tracing.of, tracing.given, files) {
         Ok(prepared) => traced_outcome(
             alloc,
-            tracing.of.idl,
+            tracing.of.idl.name,
             tracing.of.op,
             trace_prepared(alloc, prepared, tracing.order, input),
         ),
         Err(refusal) => stopped_outcome(
             alloc,
-            tracing.of.idl,
+            tracing.of.idl.name,
             tracing.of.op,
             Stopped {
                 refusal,

@@ -1,6 +1,7 @@
 -- What a compiler of files that it loads answers, over files in memory.
 use mathlib.Core.Path.{fun_ext}
 use Rattle.std.proofs.Common.{◌≡◌, ℕ, ◌≤◌, List, Option, Some, arith, subst}
+use Rattle.idl_grammar.specs.Files.{Idl}
 use Rattle.nd_base.specs.Over.{Rose, FilesOver, Count}
 use Rattle.nd_types.specs.declared.interface.Interface.{Interface}
 use Rattle.command_compile.specs.Compiled.{IsCompiled, IsIdlCause}
@@ -16,7 +17,7 @@ seen held asked asked_now absences =
 no_rise : Rose 0 0 → ⊥
 no_rise rose = absurd (omega (arith, rose))
 
-module _ (held named : List ℕ → Option (List ℕ)) (same : (name : List ℕ) → held name ≡ named name) (idl : List ℕ) (acf : Option (List ℕ)) where
+module _ (held named : List ℕ → Option (List ℕ)) (same : (name : List ℕ) → held name ≡ named name) (idl : Idl) (acf : Option (List ℕ)) where
   pub compiled_of : (asked asked_now : List (List ℕ)) (absences : Count) (i : Interface) → IsCompiled (seen held asked asked_now absences) idl acf i → IsCompiledOf named idl acf i
   compiled_of asked asked_now absences i c =
       subst (λ (h : List ℕ → Option (List ℕ)). IsCompiledOf h idl acf i) (fun_ext {f = held} {g = named} same) (record { file = c.file; loaded = c.loaded; means = c.means })

@@ -1,5 +1,6 @@
 // An interface is compiled from files that a caller lends.
 ghost use Rattle.std.specs.Prelude.{◌≡◌, ℕ, List, Option, None, option_map, IfOk, IfErr};
+ghost use Rattle.idl_grammar.specs.Files.{seen_idl};
 ghost use Rattle.library_interface.specs.Held.{content_under};
 ghost use Rattle.library_interface.specs.Named.{named_after, HasBadName};
 ghost use Rattle.library_interface.specs.declared.file.File.{File as FileValue};
@@ -12,6 +13,7 @@ use crate::fault::CompileFault;
 use crate::{File, LendFault, LentFiles};
 use command_compile::compile;
 use command_refusals::Refusal;
+use idl_grammar::IdlFile;
 use nd_types::Interface;
 use std::alloc::Global;
 
@@ -26,13 +28,13 @@ use std::alloc::Global;
 pub fn compile_files(
     alloc: Global,
     files: &[File<'_>],
-    idl: &str,
+    idl: IdlFile<'_>,
     acf: Option<&str>,
 ) -> Result<Compiled, CompileFault>
-    ensures compiled { IfOk result (IsCompiledOf (λ name. named_after files.now name None) idl.now (option_map (λ a. a.now) acf.entry)) }
+    ensures compiled { IfOk result (IsCompiledOf (λ name. named_after files.now name None) (seen_idl idl.entry) (option_map (λ a. a.now) acf.entry)) }
     ensures good { IfOk result (λ _. HasBadName files.now → ⊥) }
     ensures refused { IfErr result
-        (IsCompileFault files.now (λ name. named_after files.now name None) idl.now (option_map (λ a. a.now) acf.entry)) }
+        (IsCompileFault files.now (λ name. named_after files.now name None) (seen_idl idl.entry) (option_map (λ a. a.now) acf.entry)) }
 {
     match LentFiles::of(alloc, files) {
         Ok(lent) => compile_lent(alloc, lent, idl, acf),
@@ -45,13 +47,13 @@ pub fn compile_files(
 fn compile_lent(
     alloc: Global,
     mut lent: LentFiles,
-    idl: &str,
+    idl: IdlFile<'_>,
     acf: Option<&str>,
 ) -> Result<Compiled, CompileFault>
     ensures compiled { (held : List ℕ → Option (List ℕ)) → ((name : List ℕ) → content_under lent name ≡ held name)
-        → IfOk result (IsCompiledOf held idl.now (option_map (λ a. a.now) acf.entry)) }
+        → IfOk result (IsCompiledOf held (seen_idl idl.entry) (option_map (λ a. a.now) acf.entry)) }
     ensures refused { (files : List FileValue) (held : List ℕ → Option (List ℕ)) → ((name : List ℕ) → content_under lent name ≡ held name)
-        → IfErr result (IsCompileFault files held idl.now (option_map (λ a. a.now) acf.entry)) }
+        → IfErr result (IsCompileFault files held (seen_idl idl.entry) (option_map (λ a. a.now) acf.entry)) }
 {
     match compile_interface(alloc, &mut lent, idl, acf) {
         Ok(interface) => with_plan(alloc, interface),
@@ -74,13 +76,13 @@ fn with_plan(alloc: Global, interface: Interface) -> Result<Compiled, CompileFau
 fn compile_interface(
     alloc: Global,
     lent: &mut LentFiles,
-    idl: &str,
+    idl: IdlFile<'_>,
     acf: Option<&str>,
 ) -> Result<Interface, Refusal>
     ensures compiled { (held : List ℕ → Option (List ℕ)) → ((name : List ℕ) → content_under lent.old name ≡ held name)
-        → IfOk result (IsCompiledOf held idl.now (option_map (λ a. a.now) acf.entry)) }
+        → IfOk result (IsCompiledOf held (seen_idl idl.entry) (option_map (λ a. a.now) acf.entry)) }
     ensures refused { (held : List ℕ → Option (List ℕ)) → ((name : List ℕ) → content_under lent.old name ≡ held name)
-        → IfErr result (IsCompileCause held idl.now (option_map (λ a. a.now) acf.entry)) }
+        → IfErr result (IsCompileCause held (seen_idl idl.entry) (option_map (λ a. a.now) acf.entry)) }
 {
     match compile(alloc, idl, acf, lent) {
         Ok(interface) => Ok(interface),

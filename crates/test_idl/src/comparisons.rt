@@ -1,6 +1,7 @@
 // Two versions of an interface, compared through the public call.
 use command_compile::compile;
 use idl_compat::{Compared, compare};
+use idl_grammar::{IdlFile, Language};
 use nd_base::{MemFiles, Memory, Octets};
 use nd_types::Interface;
 use std::alloc::Global;
@@ -27,7 +28,11 @@ fn interface(alloc: Global, text: &[u8]) -> Option<Interface> {
     let Ok(()) = files.add("t.idl", text) else {
         return None;
     };
-    match compile(alloc, "t.idl", None, &mut files) {
+    let idl = IdlFile {
+        name: "t.idl",
+        language: Language::C706,
+    };
+    match compile(alloc, idl, None, &mut files) {
         Ok(interface) => Some(interface),
         Err(_) => None,
     }

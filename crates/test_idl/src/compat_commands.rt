@@ -1,6 +1,7 @@
 // `compat` over files in memory.
 use command_compile::compat;
 use command_refusals::{CompatFault, Refusal};
+use idl_grammar::{IdlFile, Language};
 use nd_base::{MemFiles, Memory};
 use std::alloc::Global;
 use std::test::Fail;
@@ -13,6 +14,14 @@ const NEW: &[u8] =
 
 const OTHER: &[u8] =
     b"[uuid(11111111-2222-3333-4444-555555555555), version(1.1)] interface t { void g([in] short b); }";
+
+/// A file of this name in the language of C706.
+fn named(name: &str) -> IdlFile<'_> {
+    IdlFile {
+        name,
+        language: Language::C706,
+    }
+}
 
 // Files with an older and a newer version, of which the loads of these numbers, from 1, fail.
 fn files_of(alloc: Global, newer: &[u8], fails: &[u32]) -> Result<MemFiles, Memory> {
@@ -29,7 +38,14 @@ fn files_of(alloc: Global, newer: &[u8], fails: &[u32]) -> Result<MemFiles, Memo
 // Whether a newer version is compatible with the older one, with one operation.
 fn is_compatible(alloc: Global, newer: &[u8]) -> Result<bool, Memory> {
     let mut files = files_of(alloc, newer, &[])?;
-    match compat(alloc, "old.idl", None, "new.idl", None, &mut files) {
+    match compat(
+        alloc,
+        named("old.idl"),
+        None,
+        named("new.idl"),
+        None,
+        &mut files,
+    ) {
         Ok(line) => Ok(line.as_slice() == b"compatible 1\n".as_slice()),
         Err(_) => Ok(false),
     }
@@ -38,7 +54,14 @@ fn is_compatible(alloc: Global, newer: &[u8]) -> Result<bool, Memory> {
 // Whether the operation `f` of the older one is the first that differs.
 fn differs(alloc: Global, newer: &[u8]) -> Result<bool, Memory> {
     let mut files = files_of(alloc, newer, &[])?;
-    match compat(alloc, "old.idl", None, "new.idl", None, &mut files) {
+    match compat(
+        alloc,
+        named("old.idl"),
+        None,
+        named("new.idl"),
+        None,
+        &mut files,
+    ) {
         Err(Refusal::NotCompatible(CompatFault::Differs { name })) => Ok(
             name.as_slice() == b"f".as_slice(),
         ),
@@ -49,7 +72,14 @@ fn differs(alloc: Global, newer: &[u8]) -> Result<bool, Memory> {
 // Whether the file of a name could not be read, where the loads of these numbers fail.
 fn fails(alloc: Global, failing: &[u32], name: &[u8]) -> Result<bool, Memory> {
     let mut files = files_of(alloc, NEW, failing)?;
-    match compat(alloc, "old.idl", None, "new.idl", None, &mut files) {
+    match compat(
+        alloc,
+        named("old.idl"),
+        None,
+        named("new.idl"),
+        None,
+        &mut files,
+    ) {
         Err(Refusal::FileFailed { file }) => Ok(file.as_slice() == name),
         _ => Ok(false),
     }

@@ -1,5 +1,6 @@
 // Interfaces of texts.
 use command_compile::compile;
+use idl_grammar::{IdlFile, Language};
 use nd_base::{MemFiles, Memory};
 use nd_types::Interface;
 use std::alloc::Global;
@@ -8,7 +9,11 @@ use std::alloc::Global;
 pub(crate) fn interface(alloc: Global, text: &[u8]) -> Result<Interface, Memory> {
     let mut files = MemFiles::new(alloc, &[])?;
     files.add("t.idl", text)?;
-    match compile(alloc, "t.idl", None, &mut files) {
+    let idl = IdlFile {
+        name: "t.idl",
+        language: Language::C706,
+    };
+    match compile(alloc, idl, None, &mut files) {
         Ok(interface) => Ok(interface),
         Err(_) => Err(Memory),
     }

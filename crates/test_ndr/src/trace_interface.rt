@@ -1,5 +1,6 @@
 // The interface of the worked octets.
 use command_compile::compile;
+use idl_grammar::{IdlFile, Language};
 use nd_base::{MemFiles, Memory};
 use nd_types::Interface;
 use std::alloc::Global;
@@ -20,7 +21,11 @@ const IDL: &[u8] = b"[uuid(11111111-2222-3333-4444-555555555555)] interface t {
 pub(crate) fn interface(alloc: Global) -> Result<Interface, Memory> {
     let mut files = MemFiles::new(alloc, &[])?;
     files.add("t.idl", IDL)?;
-    match compile(alloc, "t.idl", None, &mut files) {
+    let idl = IdlFile {
+        name: "t.idl",
+        language: Language::C706,
+    };
+    match compile(alloc, idl, None, &mut files) {
         Ok(interface) => Ok(interface),
         Err(_) => Err(Memory),
     }

@@ -1,5 +1,6 @@
 use Rattle.std.proofs.Common.{None, option_map, refl, inl}
 use Rattle.std.proofs.lemmas.Result.{err_from_is_err_and}
+use Rattle.idl_grammar.specs.Files.{seen_idl}
 use Rattle.nd_base.specs.Over.{files_over, source_over}
 use Rattle.dceidl.proofs.Calling.{called_done, called_refused}
 use Rattle.dceidl.proofs.call.request.Goals as goal
@@ -13,12 +14,12 @@ pub returns-clause-done : goal.returns-clause-done
 returns-clause-done g c =
     let f = files_over g.F.Files.seen c.args.files.now c.compile.new.files in
     let s = source_over g.S.Source.seen c.args.input.now c.print_call.new.input in
-    called_done f s c.args.idl.now (option_map (λ a. a.now) c.args.acf) None c.in_ok-interface.interface None
+    called_done f s (seen_idl c.args.idl) (option_map (λ a. a.now) c.args.acf) None c.in_ok-interface.interface None
     (record { compiled = c.in_ok-interface.ensures.ok; numbered = refl }) c.print_call.result c.print_call.ensures.printed
 
 pub returns-clause-refused : goal.returns-clause-refused
 returns-clause-refused g c =
     let f = files_over g.F.Files.seen c.args.files.now c.compile.new.files in
     let s = source_over g.S.Source.seen c.args.input.now c.print_call.new.input in
-    called_refused f s c.args.idl.now (option_map (λ a. a.now) c.args.acf) None c.in_ok-interface.interface None
+    called_refused f s (seen_idl c.args.idl) (option_map (λ a. a.now) c.args.acf) None c.in_ok-interface.interface None
     (record { compiled = c.in_ok-interface.ensures.ok; numbered = refl }) c.print_call.result c.print_call.ensures.refused

@@ -1,5 +1,6 @@
 use Rattle.std.proofs.Common.{Some, option_map, refl, inl}
 use Rattle.std.proofs.lemmas.Result.{err_from_is_err_and}
+use Rattle.idl_grammar.specs.Files.{seen_idl}
 use Rattle.nd_base.specs.Over.{files_over, source_over}
 use Rattle.dceidl.proofs.Calling.{response_ready, called_done, called_refused}
 use Rattle.dceidl.proofs.call.response.Goals as goal
@@ -15,8 +16,8 @@ returns-clause-done g c =
     let f = files_over g.F.Files.seen c.args.files.now c.make_ready.new.files in
     let s = source_over g.S.Source.seen c.args.input.now c.print_call.new.input in
     let r = c.in_ok-ready.ready in
-    called_done f s c.args.idl.now (option_map (λ a. a.now) c.args.acf) (Some c.args.op.now) r.interface (Some r.number)
-    (response_ready f c.args.idl.now (option_map (λ a. a.now) c.args.acf) c.args.op.now r.interface r.number o found) c.print_call.result c.print_call.ensures.printed
+    called_done f s (seen_idl c.args.idl) (option_map (λ a. a.now) c.args.acf) (Some c.args.op.now) r.interface (Some r.number)
+    (response_ready f (seen_idl c.args.idl) (option_map (λ a. a.now) c.args.acf) c.args.op.now r.interface r.number o found) c.print_call.result c.print_call.ensures.printed
 
 pub returns-clause-refused : goal.returns-clause-refused
 returns-clause-refused g c =
@@ -24,5 +25,5 @@ returns-clause-refused g c =
     let f = files_over g.F.Files.seen c.args.files.now c.make_ready.new.files in
     let s = source_over g.S.Source.seen c.args.input.now c.print_call.new.input in
     let r = c.in_ok-ready.ready in
-    called_refused f s c.args.idl.now (option_map (λ a. a.now) c.args.acf) (Some c.args.op.now) r.interface (Some r.number)
-    (response_ready f c.args.idl.now (option_map (λ a. a.now) c.args.acf) c.args.op.now r.interface r.number o found) c.print_call.result c.print_call.ensures.refused
+    called_refused f s (seen_idl c.args.idl) (option_map (λ a. a.now) c.args.acf) (Some c.args.op.now) r.interface (Some r.number)
+    (response_ready f (seen_idl c.args.idl) (option_map (λ a. a.now) c.args.acf) c.args.op.now r.interface r.number o found) c.print_call.result c.print_call.ensures.refused

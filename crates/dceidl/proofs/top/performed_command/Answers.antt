@@ -1,4 +1,5 @@
 use Rattle.std.proofs.Common.{option_map, refl, sym, subst}
+use Rattle.idl_grammar.specs.Files.{seen_idl}
 use Rattle.nd_base.specs.Over.{files_over, source_over}
 use Rattle.ndr_pipe.specs.Ends.{ends_over}
 use Rattle.command_line.specs.Words as words
@@ -20,5 +21,5 @@ returns-in-Some-asked_versions-clause-outcome g c =
     (source_over g.S.Source.seen c.args.input.now c.args.input.now) (ends_over g.E.PipeEnd.seen c.args.ends.now c.args.ends.now)
     in
     let v = c.in-Some-asked_versions.versions in
-    compared_outcome x v.old.now (option_map (λ a. a.now) v.old_acf) v.new.now (option_map (λ a. a.now) v.new_acf) _ c.compared.result c.in-Some-asked_versions.ensures.some
+    compared_outcome x (seen_idl v.old) (option_map (λ a. a.now) v.old_acf) (seen_idl v.new) (option_map (λ a. a.now) v.new_acf) _ c.compared.result c.in-Some-asked_versions.ensures.some
     c.compared.ensures.outcome
