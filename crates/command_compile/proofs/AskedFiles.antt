@@ -152,7 +152,8 @@ main_asked held idl acf = record { main = refl; due = due }
 
 module _ (held : Option (List ℕ → Option (List ℕ))) (idl : Idl) (text : List ℕ) (content : IsContent held idl.name text) where
   -- the imports to which a walk comes, after the main file
-  module _ (tree : Tree) (parsed : IsFile idl.language text tree) (reached : List Source) (walk : Walk held (start idl.language (main_file idl text)) (all_of 0 tree) (Stopped reached names.Memory)) where
+  module _ (tree : Tree) (parsed : IsFile idl.language text tree) (reached : List Source)
+      (walk : Walk held (start idl.language (main_file idl text)) (all_of 0 tree) (Stopped reached names.Memory)) where
     pub reached_names : names_of reached ≡ idl.name ∷ names_of (drop 1 reached)
     reached_names = let (more, is) = keeps held _ _ reached walk in ap names_of is ∙ ap (λ (l : List Source). idl.name ∷ names_of l) (ap (drop 1) (sym is))
 

@@ -49,6 +49,7 @@ module _ (held : Option (List ℕ → Option (List ℕ))) (d : State) where
   all_ended (walk.enters s place name rest _ text t due content is w) h i =
       all_ended w h (join_all due_named (all_of (length s.sources) t) rest (all_due (length s.sources) t (file_named text t is)) i)
 
-pub resolved_named : {language : Language} (held : Option (List ℕ → Option (List ℕ))) (main : List Source) (text : List ℕ) (t : Tree) (s : State) → IsFile language text t → IsResolved language held main t s
+pub resolved_named : {language : Language} (held : Option (List ℕ → Option (List ℕ))) (main : List Source) (text : List ℕ) (t : Tree) (s : State) → IsFile language text t
+    → IsResolved language held main t s
     → list_all ended_named s.ended ≡ true
 resolved_named held main text t s is r = all_ended held s r.walk refl (all_due 0 t (file_named text t is))

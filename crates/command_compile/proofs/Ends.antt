@@ -132,7 +132,8 @@ module _ (held : Option (List ℕ → Option (List ℕ))) where
   each_walk s dues =
       let e = each_told_walk held none_fails s dues in record { ending = e.ending; decided = is_told_decided e.memory e.walk e.fails_as; walk = e.walk }
 
-  by_first : (language : Language) (main : List Source) (t : Tree) (s : State) → Walk held (start language main) (all_of 0 t) (Done s) → (o : Option Place) → first_undefined s.known s.known.uses ≡ o → Comes language held main t
+  by_first : (language : Language) (main : List Source) (t : Tree) (s : State) → Walk held (start language main) (all_of 0 t) (Done s) → (o : Option Place)
+      → first_undefined s.known s.known.uses ≡ o → Comes language held main t
   by_first language main t s w None is = ToNames s (record { walk = w; whole = is })
   by_first language main t s w (Some place) is = ToFault s.sources (fault.Unknown place) refl (inr (record { state = s; walk = w; sources_are = refl; first = is }))
 

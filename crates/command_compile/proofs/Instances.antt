@@ -15,7 +15,8 @@ nothing_held language place e d w =
     one_ending (λ name. None) d refl w (walk.absent (start language []) place (codes "a.idl") [] (record { new = refl; room = omega arith }) refl)
 
 -- Where each load fails, an import ends each walk as failed.
-pub load_fails : (language : Language) (place : Place) (e : Ending) → has_memory e ≡ true → (w : Walk (Some (λ name. None)) (start language []) (Load place (codes "a.idl") ∷ []) e) → FailsAs (λ name. true) w
+pub load_fails : (language : Language) (place : Place) (e : Ending) → has_memory e ≡ true → (w : Walk (Some (λ name. None)) (start language []) (Load place (codes "a.idl") ∷ []) e)
+    → FailsAs (λ name. true) w
     → e ≡ Stopped (source (codes "a.idl") [] ∷ []) (fault.Failed 0)
 load_fails language place e h w f =
     one_told_ending (λ name. None) (λ name. true) h refl w (walk.failed (start language []) place (codes "a.idl") [] (record { new = refl; room = omega arith })) f refl

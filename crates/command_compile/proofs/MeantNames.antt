@@ -162,7 +162,8 @@ operations_are s (n ∷ ns) h =
     ∙ join_all has_names (operation_in s n.names n.node) (flat_map (λ m. operation_in s m.names m.node) ns) (operation_is s n.names n.node h.0) (operations_are s ns h.1)
 
 -- what texts mean has identifiers for names
-pub meant_named : {language : Language} (held : Option (List ℕ → Option (List ℕ))) (main : List Source) (text : List ℕ) (t : Tree) (s : State) → IsFile language text t → IsResolved language held main t s
+pub meant_named : {language : Language} (held : Option (List ℕ → Option (List ℕ))) (main : List Source) (text : List ℕ) (t : Tree) (s : State) → IsFile language text t
+    → IsResolved language held main t s
     → HasIdentifiers (types_of (scene_of (world s))) (operations_of (scene_of (world s)))
 meant_named held main text t s is r =
     let scene = scene_of (world s) in

@@ -105,7 +105,8 @@ walk_real held (walk.short s rest) = tt
 walk_real held (walk.short_in_load s place name rest due) = tt
 walk_real held (walk.short_after_load s place name rest text due content) = tt
 
-undefined_real : {language : Language} (held : Option (List ℕ → Option (List ℕ))) (main : List Source) (t : Tree) (sources : List Source) (f : NameFault) → IsUndefinedFault language held main t sources f → IsReal f
+undefined_real : {language : Language} (held : Option (List ℕ → Option (List ℕ))) (main : List Source) (t : Tree) (sources : List Source) (f : NameFault)
+    → IsUndefinedFault language held main t sources f → IsReal f
 undefined_real held main t sources (names.Unknown p) u = tt
 undefined_real held main t sources names.Memory u = absurd u
 undefined_real held main t sources (names.Twice p q) u = absurd u
@@ -117,7 +118,8 @@ undefined_real held main t sources (names.Failed n) u = absurd u
 undefined_real held main t sources (names.Lex n f) u = absurd u
 undefined_real held main t sources (names.Syntax n at f) u = absurd u
 
-refused_real : {language : Language} (held : Option (List ℕ → Option (List ℕ))) (main : List Source) (t : Tree) (sources : List Source) (f : NameFault) → IsRefused language held main t sources f → IsReal f
+refused_real : {language : Language} (held : Option (List ℕ → Option (List ℕ))) (main : List Source) (t : Tree) (sources : List Source) (f : NameFault) → IsRefused language held main t sources f
+    → IsReal f
 refused_real held main t sources f (inl w) = walk_real held w
 refused_real held main t sources f (inr u) = undefined_real held main t sources f u
 

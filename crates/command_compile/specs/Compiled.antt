@@ -22,7 +22,8 @@ pub record FileNames : Type 0 where
   pub acf : Option (List ℕ)
 
 -- An import is due once exactly these files were asked for: the walk, with their loads begun, comes to it.
-pub record IsNextImport (held : Option (List ℕ → Option (List ℕ))) (idl : Idl) (text : List ℕ) (earlier : List (List ℕ)) (name : List ℕ) : Type 0 where
+pub record IsNextImport (held : Option (List ℕ → Option (List ℕ))) (idl : Idl) (text : List ℕ) (earlier : List (List ℕ))
+    (name : List ℕ) : Type 0 where
   pub due : IsDueImport held idl text name
   pub earlier_are : earlier ≡ names_of due.sources
 

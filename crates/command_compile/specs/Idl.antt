@@ -234,7 +234,8 @@ pub record IsDueImport (held : Option (List ℕ → Option (List ℕ))) (idl : I
   pub tree : Tree
   pub parsed : IsFile idl.language text tree
   pub sources : List Source
-  pub comes : Walk held (start idl.language (main_file idl text)) (all_of 0 tree) (Stopped (and_source sources file []) (names.Failed (length sources)))
+  pub comes : Walk held (start idl.language (main_file idl text)) (all_of 0 tree)
+      (Stopped (and_source sources file []) (names.Failed (length sources)))
 
 -- The load of the attribute configuration file is due: it is named, and all names are resolved. A file that was loaded already under this name, as
 -- one of IDL, is loaded again.

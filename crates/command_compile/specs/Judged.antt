@@ -31,13 +31,15 @@ pub data IsJudged (w : World) : Type 0 where
 abbrev pub main_file : Idl → List ℕ → List Source
 main_file idl text = source idl.name text ∷ []
 
--- What a main file of this name, language and text comes to: an interface, which is legal; a broken rule; a fault of names or of an imported file, which is
--- absent, say, but neither by running out of memory nor by a failed load; a fault of its own syntax; or one of its own tokens.
+-- What a main file of this name, language and text comes to: an interface, which is legal; a broken rule; a fault of names or of an imported file,
+-- which is absent, say, but neither by running out of memory nor by a failed load; a fault of its own syntax; or one of its own tokens.
 pub data HasOutcome (held : Option (List ℕ → Option (List ℕ))) (idl : Idl) (text : List ℕ) : Type 0 where
-  Interface : (t : Tree) → IsFile idl.language text t → (s : State) → IsResolved idl.language held (main_file idl text) t s → (m : Meant) → MeansLegal (world s) m
+  Interface : (t : Tree) → IsFile idl.language text t → (s : State) → IsResolved idl.language held (main_file idl text) t s → (m : Meant)
+      → MeansLegal (world s) m
       → IsLegal m.types m.operations
       → HasOutcome held idl text
-  Broken : (t : Tree) → IsFile idl.language text t → (s : State) → IsResolved idl.language held (main_file idl text) t s → (b : Breach) → first_broken (world s) ≡ Some b
+  Broken : (t : Tree) → IsFile idl.language text t → (s : State) → IsResolved idl.language held (main_file idl text) t s → (b : Breach)
+      → first_broken (world s) ≡ Some b
       → HasOutcome held idl text
   Unnamed : (t : Tree) → IsFile idl.language text t → (sources : List Source) (f : NameFault) → is_decided (Stopped sources f) ≡ true
       → IsRefused idl.language held (main_file idl text) t sources f

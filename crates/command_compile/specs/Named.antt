@@ -9,4 +9,5 @@ use Rattle.idl_names.specs.Walk.{Source, State, Stopped, IsResolved, IsRefused}
 -- The names of the files are resolved, or there is a first fault of the files, neither by running out of memory nor by a failed load.
 pub data Comes (language : Language) (held : Option (List ℕ → Option (List ℕ))) (main : List Source) (t : Tree) : Type 0 where
   ToNames : (s : State) → IsResolved language held main t s → Comes language held main t
-  ToFault : (sources : List Source) (f : NameFault) → is_decided (Stopped sources f) ≡ true → IsRefused language held main t sources f → Comes language held main t
+  ToFault : (sources : List Source) (f : NameFault) → is_decided (Stopped sources f) ≡ true → IsRefused language held main t sources f
+      → Comes language held main t

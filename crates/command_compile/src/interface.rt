@@ -172,8 +172,10 @@ fn scope_of<F: Files>(
 // The tree of the main file.
 fn main_tree(alloc: Global, language: Language, sources: &Sources) -> Result<Tree, NameFault>
     requires { length sources.now ≡ 1 }
-    ensures tree { (name text : List ℕ) → sources.now ≡ main_file (record { name = name; language = language }) text → IfOk result (λ t. IsFile language text (seen_tree t)) }
-    ensures fault { (name text : List ℕ) → sources.now ≡ main_file (record { name = name; language = language }) text → IfErr result (IsMainFault language text) }
+    ensures tree { (name text : List ℕ) → sources.now ≡ main_file (record { name = name; language = language }) text
+        → IfOk result (λ t. IsFile language text (seen_tree t)) }
+    ensures fault { (name text : List ℕ) → sources.now ≡ main_file (record { name = name; language = language }) text
+        → IfErr result (IsMainFault language text) }
 {
     let Some(text) = sources.text(0) else {
         unreachable!()
@@ -223,7 +225,8 @@ fn judge<F: Files>(
 ) -> Result<Interface, Refusal>
     ensures asked { (F.seen files.new).asked ≡ (F.seen files.old).asked ++ option_to_list (option_map (λ a. a.now) acf.entry) }
     ensures ok { (idl : Idl) (text : List ℕ) → (r : AreResolved (F.seen files.old).held idl text (seen_scope idl.language sources.now scope.now))
-        → IfOk result (IsJudged (F.seen files.old).held idl text (option_map (λ a. a.now) acf.entry) (seen_scope idl.language sources.now scope.now)) }
+        → IfOk result (IsJudged (F.seen files.old).held idl text (option_map (λ a. a.now) acf.entry)
+        (seen_scope idl.language sources.now scope.now)) }
     ensures err { (idl : Idl) (text : List ℕ) → AreResolved (F.seen files.old).held idl text (seen_scope idl.language sources.now scope.now)
         → IfErr result
         (IsTextCause (files_over F.seen files.old files.new) idl text (option_map (λ a. a.now) acf.entry)) }

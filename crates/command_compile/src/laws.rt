@@ -46,7 +46,8 @@ pub fn walks_end()
     ensures ends { (held : Option (List ℕ → Option (List ℕ))) (s : State) (dues : List Due) → HasEnding held s dues }
     ensures told { (held : Option (List ℕ → Option (List ℕ))) (fails : List ℕ → Bool) (s : State) (dues : List Due)
         → HasToldEnding held fails s dues }
-    ensures absent { (language : Language) (place : Place) (e : Ending) → is_decided e ≡ true → Walk (Some (λ name. None)) (start language []) (Load place (codes "a.idl") ∷ []) e
+    ensures absent { (language : Language) (place : Place) (e : Ending) → is_decided e ≡ true
+        → Walk (Some (λ name. None)) (start language []) (Load place (codes "a.idl") ∷ []) e
         → e ≡ Stopped (source (codes "a.idl") [] ∷ []) (Absent 0) }
     ensures failed { (language : Language) (place : Place) (e : Ending) → has_memory e ≡ true
         → (w : Walk (Some (λ name. None)) (start language []) (Load place (codes "a.idl") ∷ []) e) → FailsAs (λ name. true) w
@@ -64,9 +65,11 @@ pub fn names_are_resolved()
 /// interface or is refused: for a rule, for names, for a file that it imports (which is absent, or has a fault of its own), for its syntax or for its
 /// tokens.
 pub fn files_are_judged()
-    ensures resolved { (language : Language) (held : Option (List ℕ → Option (List ℕ))) (main : List Source) (t : Tree) (s : State) → IsResolved language held main t s
+    ensures resolved { (language : Language) (held : Option (List ℕ → Option (List ℕ))) (main : List Source) (t : Tree) (s : State)
+        → IsResolved language held main t s
         → IsJudged (world s) }
-    ensures named { (language : Language) (held : Option (List ℕ → Option (List ℕ))) (main : List Source) (text : List ℕ) (t : Tree) (s : State) → IsFile language text t
+    ensures named { (language : Language) (held : Option (List ℕ → Option (List ℕ))) (main : List Source) (text : List ℕ) (t : Tree) (s : State)
+        → IsFile language text t
         → IsResolved language held main t s
         → HasIdentifiers (types_of (scene_of (world s))) (operations_of (scene_of (world s))) }
     ensures outcome { (held : Option (List ℕ → Option (List ℕ))) (idl : Idl) (text : List ℕ) → HasOutcome held idl text }

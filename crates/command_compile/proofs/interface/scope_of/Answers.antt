@@ -47,7 +47,8 @@ returns-in_err-tree-clause-asked g c name text same = record {
 
 pub returns-clause-asked : goal.returns-clause-asked
 returns-clause-asked g c name text same =
-    imports_asked (g.F.Files.seen c.args.files.now).held (record { name = name; language = c.args.language }) text (seen_tree c.in_ok-tree.tree) c.args.sources.now (g.F.Files.seen c.args.files.now).asked (g.F.Files.seen c.resolve.new.files).asked
+    imports_asked (g.F.Files.seen c.args.files.now).held (record { name = name; language = c.args.language }) text (seen_tree c.in_ok-tree.tree) c.args.sources.now
+    (g.F.Files.seen c.args.files.now).asked (g.F.Files.seen c.resolve.new.files).asked
     (c.in_ok-tree.ensures.tree name text same) same c.resolve.ensures.asked
 
 pub returns-clause-all_asked : goal.returns-clause-all_asked
