@@ -255,16 +255,18 @@ worded_command (word ∷ words) =
 
 -- ### Explanations
 
--- the words after `why`, if it is the first
+-- the words after `why`, if it is the first; all words if `help` is the first
 abbrev pub why_words : List (List ℕ) → Option (List (List ℕ))
 why_words [] = None
-why_words (verb ∷ rest) = if is_word verb (codes "why") then Some rest else None
+why_words (verb ∷ rest) =
+    if is_word verb (codes "why") then Some rest
+    else if is_word verb (codes "help") then Some (verb ∷ rest) else None
 
 abbrev pub command_or_why : Option (List (List ℕ)) → List (List ℕ) → Option Command
 command_or_why (Some words) all = Some (Why words)
 command_or_why None all = worded_command all
 
--- The command that words are, if they are one: `why WORD ..`, or else a command with or without `windows`.
+-- The command that words are, if they are one: `why WORD ..`, `help WORD ..`, or else a command with or without `windows`.
 abbrev pub command : List (List ℕ) → Option Command
 command words = command_or_why (why_words words) words
 

@@ -69,7 +69,7 @@ impl Words {
         }
     }
 
-    /// The words after `why`, or None if it is not the first word. Takes no memory.
+    /// The words after `why`, or all words after and with `help`, or None if neither is the first word. Takes no memory.
     pub fn why(&self) -> Option<&[String]>
         ensures { option_map (λ words. map string_bytes words.now) result ≡ why_words self.now }
     {
@@ -204,7 +204,7 @@ fn in_c706(name: &str) -> IdlFile<'_>
     }
 }
 
-// The words after `why`, if it is the first.
+// The words after `why`, if it is the first, or all words, if `help` is.
 fn words_after_why(words: &[String]) -> Option<&[String]>
     ensures { option_map (λ rest. map string_bytes rest.now) result ≡ why_words (map string_bytes words.now) }
 {
@@ -212,6 +212,8 @@ fn words_after_why(words: &[String]) -> Option<&[String]>
         [verb, rest @ ..] => {
             if verb.as_str() == "why" {
                 Some(rest)
+            } else if verb.as_str() == "help" {
+                Some(words)
             } else {
                 None
             }
