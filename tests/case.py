@@ -52,6 +52,10 @@ class Begins:
     start: bytes
 
 
+class LeftOut(Exception):
+    """A case that cannot be judged on this machine. Its text says what is missing."""
+
+
 class Folder:
     """A folder in the place of a file."""
 
@@ -76,8 +80,9 @@ class Case:
     """One run of the real program in a fresh folder, and what has to come of it.
 
     `words` are the words after the program's name. `files` are made in the folder that the program runs in; a file that
-    is not among them is missing. `room` is how many octets of address space the run may take. What is left out has its
-    usual value: no input, nothing written, status 0, no limit.
+    is not among them is missing. `room` is how many octets of address space the run may take. `slow` is set if the run
+    takes long with a program that was made without proof. What is left out has its usual value: no input, nothing
+    written, status 0, no limit.
     """
 
     name: str
@@ -90,6 +95,7 @@ class Case:
     ends: Mapping[str, bytes] = field(default_factory=dict)
     left: Optional[bytes] = None
     room: Optional[int] = None
+    slow: bool = False
 
 
 @dataclass(frozen=True)
@@ -104,18 +110,21 @@ class Late:
 class Command:
     """A command line as a page of this repository shows it, run by a shell at the top of the clone.
 
-    `shown` is what it prints on standard output and standard error together. The name bin/dceidl means the program that
-    is tested.
+    `shown` is what it prints on standard output and standard error together. The names bin/dceidl and bin/try mean the
+    program that is tested. It is left out on a machine that lacks a program of the line. `alone` is set if no other case
+    may run at the same time, as of a line that writes a file.
     """
 
     name: str
     line: str
     shown: bytes
+    alone: bool = False
+    slow: bool = False
 
 
 @dataclass(frozen=True)
 class Check:
-    """A case of another kind: `find` answers what is wrong, a line each. It may run bin/dceidl by itself."""
+    """A case of another kind: `find` answers what is wrong, a line each, or raises LeftOut. It may run bin/dceidl by itself."""
 
     name: str
     find: Callable[[], Sequence[str]]
@@ -128,6 +137,7 @@ class CheckOf:
 
     name: str
     find: Callable[[str], Sequence[str]]
+    slow: bool = False
 
 
 def octets(text: str) -> bytes:

@@ -1,12 +1,15 @@
 #!/usr/bin/env python3
 """Runs the end-to-end cases of tests/cases on the real program.
 
-    tests/run.py [--program PATH] [NAME ..]
+    tests/run.py [--program PATH] [--jobs N] [--quick] [--slowest N] [NAME ..]
 
 With names, only the cases run whose name contains one of them. `--program` runs another program than bin/dceidl, which is
-otherwise built first if it is out of date. tests/README.md says how to add a case.
+otherwise built first if it is out of date. N cases run at the same time, or as many as there are processors. `--quick`
+leaves out what takes long with a program that was made without proof. `--slowest` lists the cases that took longest.
+tests/README.md says how to add a case.
 
-The last line is 'N passed, M failed', and the status is 1 if a case failed.
+A case that needs a program or a file that is not on this machine is left out, and a line says so. The last line is
+'N passed, M failed', and the status is 1 if a case failed.
 """
 
 from __future__ import annotations
@@ -14,8 +17,12 @@ from __future__ import annotations
 import argparse
 import fcntl
 import importlib.util
+import multiprocessing
 import os
+import re
 import shlex
+import shutil
+import signal
 import subprocess
 import sys
 import tempfile
@@ -23,17 +30,19 @@ import termios
 import threading
 import time
 from array import array
-from dataclasses import dataclass, replace
+from dataclasses import dataclass, field, replace
 from pathlib import Path
-from typing import BinaryIO, List, Mapping, Optional, Sequence, Union
+from typing import BinaryIO, Dict, Iterator, List, Mapping, Optional, Sequence, Tuple, Union
 
 sys.dont_write_bytecode = True
 sys.path.append(str(Path(__file__).resolve().parent / "cases"))  # files of cases may take cases of each other
 
-from case import ROOT, Begins, Case, Check, CheckOf, Command, Folder, Late, LinkTo, OneAtATime, Sparse, Stream, Unreadable, printable
+from case import (ROOT, Begins, Case, Check, CheckOf, Command, Folder, Late, LeftOut, LinkTo, OneAtATime, Sparse, Stream, Unreadable,
+                  printable)
 
 AnyCase = Union[Case, Late, Command, Check, CheckOf]
 SECONDS = 300
+LARGE = 65_536  # octets of a case that `--quick` leaves out
 SHOWN = 400  # octets of a long text that a failure shows
 
 
@@ -69,6 +78,26 @@ def chosen_cases(names: Sequence[str]) -> List[AnyCase]:
             sys.exit(f"two cases are named {case.name!r}")
         known.add(case.name)
     return [case for case in cases if not names or any(name in case.name for name in names)]
+
+
+def size(case: Case) -> int:
+    """How many octets a case gives and wants."""
+    held = [case.input, case.out, *case.files.values(), *case.ends.values()]
+    return sum(len(content) for content in held if isinstance(content, bytes))
+
+
+def is_slow(case: AnyCase) -> bool:
+    """Whether a case takes long with a program that was made without proof, or judges its memory, or the sources and not the program."""
+    if isinstance(case, Case):
+        return case.slow or case.room is not None or isinstance(case.input, Sparse) or size(case) > LARGE
+    return isinstance(case, (Late, Check)) or case.slow
+
+
+def quick(cases: Sequence[AnyCase]) -> List[AnyCase]:
+    """The cases that do not take long."""
+    kept = [case for case in cases if not is_slow(case)]
+    print(f"left out: {len(cases) - len(kept)} cases of large streams, of limits of memory and of the sources, which `.ci/run` and `tests/run.py` run")
+    return kept
 
 
 # ----------------------------------------------------------------------------------------------------------------------
@@ -191,9 +220,24 @@ def run(program: str, case: Case) -> Ran:
             return ran if case.left is None else replace(ran, left=file.read())
 
 
+QUOTED = re.compile(r"'[^']*'|\"[^\"]*\"")
+FIRST_WORD = re.compile(r"(?:^|[|;&(\n])\s*([\w./-]+)")
+OUR_PROGRAM = re.compile(r"bin/(?:dceidl|try)(?![\w-])")
+MAY_BE_MISSING = {"cc": "cc", "man": "man", "perl": "perl", "tshark": "tshark", "xxd": "xxd", "bin/calls": "tshark"}
+"""First words of commands that need a program that not every machine has."""
+
+
+def missing(line: str) -> List[str]:
+    """The programs of a line of the shell that are not on this machine."""
+    named = [MAY_BE_MISSING[word] for word in FIRST_WORD.findall(QUOTED.sub("''", line)) if word in MAY_BE_MISSING]
+    return [name for name in named if shutil.which(name) is None]
+
+
 def run_command(program: str, case: Command) -> bytes:
     """Runs a line of a page, and gives what it prints."""
-    line = case.line.replace("bin/dceidl", shlex.quote(program))
+    for name in missing(case.line):
+        raise LeftOut(f"there is no {name}")
+    line = OUR_PROGRAM.sub(lambda _: shlex.quote(program), case.line)
     try:
         ran = subprocess.run(["/bin/sh", "-c", line], cwd=ROOT, stdin=subprocess.DEVNULL, stdout=subprocess.PIPE,
                              stderr=subprocess.STDOUT, timeout=SECONDS)
@@ -261,6 +305,94 @@ def needs_program(case: AnyCase) -> bool:
     return not isinstance(case, Check) or case.runs_script
 
 
+# ----------------------------------------------------------------------------------------------------------------------
+# All cases
+
+
+@dataclass(frozen=True)
+class Judged:
+    """What came of a case: what is wrong with it, or why it was left out; and how long it took."""
+
+    name: str
+    wrong: Sequence[str]
+    left_out: str = ""
+    seconds: float = 0.0
+
+
+@dataclass
+class Tally:
+    """What came of the cases until now."""
+
+    count: int
+    passed: int = 0
+    failed: int = 0
+    left_out: Dict[str, int] = field(default_factory=dict)
+    seconds: List[Tuple[float, str]] = field(default_factory=list)
+
+    def add(self, judged: Judged) -> None:
+        """Counts a case, and prints what is wrong with it."""
+        self.seconds.append((judged.seconds, judged.name))
+        if judged.left_out:
+            self.left_out[judged.left_out] = self.left_out.get(judged.left_out, 0) + 1
+        elif judged.wrong:
+            self.failed += 1
+            print("\r\033[K" * sys.stdout.isatty() + "FAILED: " + judged.name, *judged.wrong, sep="\n", flush=True)
+        else:
+            self.passed += 1
+        if sys.stdout.isatty():
+            done = self.passed + self.failed + sum(self.left_out.values())
+            print(f"\r\033[K{done} of {self.count} cases, {self.failed} failed", end="", flush=True)
+
+    def end(self, slowest: int) -> int:
+        """Prints the last lines; the status."""
+        print("\r\033[K" * sys.stdout.isatty(), end="")
+        for seconds, name in sorted(self.seconds, reverse=True)[:slowest]:
+            print(f"{seconds:6.1f} {name}")
+        for reason, count in self.left_out.items():
+            print(f"left out, since {reason}: {count}")
+        print(f"{self.passed} passed, {self.failed} failed", flush=True)
+        return 1 if self.failed else 0
+
+
+def judge(program: str, case: AnyCase) -> Judged:
+    """Runs a case."""
+    began = time.monotonic()
+    try:
+        return Judged(case.name, faults(program, case), seconds=time.monotonic() - began)
+    except LeftOut as reason:
+        return Judged(case.name, [], str(reason))
+
+
+PLAN: List[Tuple[str, AnyCase]] = []
+"""The program and the cases that run side by side, which worker processes have from their parent."""
+
+
+def judge_planned(at: int) -> Judged:
+    return judge(*PLAN[at])
+
+
+def ignore_interrupt() -> None:
+    """A worker leaves it to its parent to end it."""
+    signal.signal(signal.SIGINT, signal.SIG_IGN)
+
+
+def judged_all(program: str, cases: Sequence[AnyCase], jobs: int) -> Iterator[Judged]:
+    """What came of the cases, as many at a time as `jobs`, those that may take long first; then those that run alone."""
+    beside = [case for case in cases if jobs > 1 and not getattr(case, "alone", False)]
+    beside.sort(key=lambda case: isinstance(case, Case) and case.room is None and not isinstance(case.input, Sparse))
+    PLAN[:] = [(program, case) for case in beside]
+    if beside:
+        with multiprocessing.get_context("fork").Pool(min(jobs, len(beside)), ignore_interrupt) as pool:
+            yield from pool.imap_unordered(judge_planned, range(len(PLAN)))
+    for case in cases:
+        if jobs == 1 or getattr(case, "alone", False):
+            yield judge(program, case)
+
+
+# ----------------------------------------------------------------------------------------------------------------------
+# The command
+
+
 def build(program: str) -> Optional[str]:
     """Has bin/dceidl build the program, which says on standard error how far it is; what to report if it could not."""
     print("building the program if it is older than its sources ..", flush=True)
@@ -271,26 +403,28 @@ def build(program: str) -> Optional[str]:
 def main() -> int:
     parser = argparse.ArgumentParser(description="Runs the end-to-end cases.")
     parser.add_argument("names", nargs="*", metavar="NAME", help="run only the cases whose name contains NAME")
-    parser.add_argument("--program", help="the program to run, in place of bin/dceidl")
+    parser.add_argument("--program", metavar="PATH", help="the program to run, in place of bin/dceidl")
+    parser.add_argument("--jobs", type=int, metavar="N", default=len(os.sched_getaffinity(0)), help="how many cases run at the same time")
+    parser.add_argument("--quick", action="store_true", help="leave out what takes long with a program that was made without proof")
+    parser.add_argument("--slowest", type=int, metavar="N", default=0, help="list the N cases that took longest")
     asked = parser.parse_args()
     cases = chosen_cases(asked.names)
-    if asked.program:
-        cases = [case for case in cases if not getattr(case, "runs_script", False)]
-    program = os.path.abspath(asked.program or ROOT / "bin" / "dceidl")
-    trouble = None if asked.program or not any(map(needs_program, cases)) else build(program)
-    if trouble is not None:
-        print(f"FAILED: bin/dceidl could not run, so each case that needs it fails\n{trouble}", flush=True)
-    passed = failed = 0
-    for case in cases:
-        hopeless = trouble is not None and needs_program(case)
-        wrong = [] if hopeless else faults(program, case)
-        if wrong:
-            print("FAILED: " + case.name, *wrong, sep="\n", flush=True)
-        passed, failed = passed + (not hopeless and not wrong), failed + (hopeless or bool(wrong))
     if not cases:
         sys.exit("no case has such a name")
-    print(f"{passed} passed, {failed} failed")
-    return 1 if failed else 0
+    if asked.program:
+        cases = [case for case in cases if not getattr(case, "runs_script", False)]
+    if asked.quick:
+        cases = quick(cases)
+    program = os.path.abspath(asked.program or ROOT / "bin" / "dceidl")
+    trouble = None if asked.program or not any(map(needs_program, cases)) else build(program)
+    tally = Tally(len(cases))
+    if trouble is not None:
+        print(f"FAILED: bin/dceidl could not run, so each case that needs it fails\n{trouble}", flush=True)
+        tally.failed = sum(map(needs_program, cases))
+        cases = [case for case in cases if not needs_program(case)]
+    for judged in judged_all(program, cases, max(asked.jobs, 1)):
+        tally.add(judged)
+    return tally.end(asked.slowest)
 
 
 if __name__ == "__main__":

@@ -6,11 +6,12 @@ And the reasons that include/dceidl.h names: each has the number and the word th
 """
 
 import re
+import shutil
 import subprocess
 import sys
 from typing import Dict, Iterator
 
-from case import ROOT, Check
+from case import ROOT, Check, LeftOut
 
 ARCHIVE = ROOT / "crates" / "dceidl_c" / "out" / "libdceidl_c.a"
 
@@ -18,8 +19,9 @@ ARCHIVE = ROOT / "crates" / "dceidl_c" / "out" / "libdceidl_c.a"
 def programs():
     """What is wrong with the programs."""
     if not ARCHIVE.exists():
-        print("library: left out, since bin/dceidl-lib has not built it here")
-        return []
+        raise LeftOut("bin/dceidl-lib has not built the library")
+    if shutil.which("cc") is None:
+        raise LeftOut("there is no cc")
     ran = subprocess.run([sys.executable, str(ROOT / "tests" / "library.py"), "examples"], capture_output=True, text=True, stdin=subprocess.DEVNULL)
     return [] if ran.returncode == 0 else [ran.stdout[-4000:], ran.stderr[-4000:]]
 

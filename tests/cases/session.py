@@ -1,5 +1,7 @@
 """The command `session`: a script over the resources res0.out to res7.out."""
 
+from dataclasses import replace
+
 from case import CLOSED, FOLDER, FULL, Case, Folder, OneAtATime, Sparse, commands, lines
 
 ID = "00112233-4455-6677-8899-aabbccddeeff"
@@ -60,5 +62,5 @@ CASES = [
     session("full notes", b"x", notes=FULL, status=4),
     session("closed notes", b"", notes=CLOSED),
     Case("session: with a word more", ["session", "x"], notes=lines("words refused"), status=2),
-    *commands("docs/SESSION.md"),
+    *(replace(line, alone=True) for line in commands("docs/SESSION.md")),
 ]

@@ -20,7 +20,9 @@ def of(*words):
 
 def example(name, at, part):
     """The case of an example: its lines are run in a folder of their own."""
-    return Command(f"why: the example of {name}, {at}", FOLDER + "\n".join(part.commands), "".join(f"{line}\n" for line in part.shown).encode())
+    text = "\n".join(part.commands)
+    return Command(f"why: the example of {name}, {at}", FOLDER + text, "".join(f"{line}\n" for line in part.shown).encode(),
+                   slow="1048577" in text or "ulimit" in text)
 
 
 EXAMPLES = [example(name, at, part) for name, of_name in PARTS.items() for at, part in enumerate(of_name, 1) if part.commands]
