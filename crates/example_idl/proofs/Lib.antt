@@ -2,3 +2,4 @@ pub mod Judged
 pub mod Listed
 pub mod AcfJudged
 pub mod LegalTexts
+mod WindowsJudged

@@ -88,3 +88,27 @@ texts_that_keep =
     ∷ keeps (codes "[local] interface t { struct s{small n;[size_is(n)]long a[*];}; }")
     ∷ keeps (codes "[local] interface t { const char A=255; }")
     ∷ []
+
+-- ## In the windows language
+
+abbrev pub windows_texts_that_break : List Example
+windows_texts_that_break =
+    breaks (codes "[local] interface t { typedef[any_size]long a[*]; }") 1 30
+    ∷ breaks (codes "[local] interface t { union u switch(long k){default:[any_length]long a[2];}; }") 1 54
+    ∷ breaks (codes "[local] interface t { struct s{[any_length,any_length]long a[2];}; }") 2 43
+    ∷ breaks (codes "[local] interface t { typedef[string,any_length]char a[2]; }") 33 22
+    ∷ breaks (codes "[local] interface t { void f([in]long n,[in,size_is(n),any_size]long a[*]); }") 34 40
+    ∷ breaks (codes "[local] interface t { struct s{[any_size]long a[2];}; }") 34 31
+    ∷ breaks (codes "[local] interface t { typedef[any_length]long a; }") 35 22
+    ∷ breaks (codes "[local] interface t { struct s{long n;[length_is(n),any_length]long a[2];}; }") 35 38
+    ∷ breaks (codes "[local] interface t { struct s{[any_length,ptr]long*a;}; }") 35 31
+    ∷ []
+
+abbrev pub windows_texts_that_keep : List Example
+windows_texts_that_keep =
+    keeps (codes "[local] interface t { typedef[any_length]long a[*];typedef[any_length]long b[3]; }")
+    ∷ keeps (codes "[local] interface t { struct s{[any_size]long a[*];};void f([in,any_size]long a[*]); }")
+    ∷ keeps (codes "[local] interface t { struct s{[any_size,any_length,ptr]struct s*a;}; }")
+    ∷ keeps (codes "[local] interface t { void f([in]long n,[in,size_is(n),any_length]long*a,[in,any_length]long b[2]); }")
+    ∷ keeps (codes "[local] interface t { struct any_size{long any_length;}; }")
+    ∷ []

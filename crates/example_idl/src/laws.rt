@@ -1,9 +1,11 @@
 //! Worked examples.
 ghost use Rattle.std.specs.Prelude.{◌≡◌, [], ◌∷◌, map};
 ghost use Rattle.nd_types.specs.Legal.{IsLegal};
-ghost use Rattle.idl_rule_definitions.specs.Texts.{told_of, no_rule, rule_at};
+ghost use Rattle.idl_grammar.specs.declared.language.Language.TheVariants.{Windows};
+ghost use Rattle.idl_rule_definitions.specs.Texts.{told_of, told_in, no_rule, rule_at};
 ghost use Rattle.example_idl.specs.Interfaces.{meant_of, sum_text, sum_meant, directory_text, directory_meant};
 ghost use Rattle.example_idl.specs.SmallTexts.{texts_that_break, texts_that_keep};
+ghost use Rattle.example_idl.specs.SmallTexts.{windows_texts_that_break, windows_texts_that_keep};
 ghost use Rattle.example_idl.specs.Listings.{listing_of, listing_beside, sum_file, sum_listing, base_file, directory_file, directory_listing};
 ghost use Rattle.example_idl.specs.Listings.{forms_file, forms_listing};
 ghost use Rattle.example_idl.specs.AcfTexts.{told_with, acf_rule_at, told_of_directory, directory_acf, other_acf, small_idl, broken_idl, acf_names};
@@ -13,6 +15,12 @@ ghost use Rattle.example_idl.specs.AcfTexts.{acf_places};
 pub fn small_texts_are_judged()
     ensures broken { map (λ e. told_of e.text) texts_that_break ≡ map (λ e. e.told) texts_that_break }
     ensures kept { map (λ e. told_of e.text) texts_that_keep ≡ map (λ e. e.told) texts_that_keep }
+{}
+
+/// The same of the rules on `any_size` and `any_length`, in the windows language; both are names outside attribute brackets.
+pub fn windows_texts_are_judged()
+    ensures broken { map (λ e. told_in Windows e.text) windows_texts_that_break ≡ map (λ e. e.told) windows_texts_that_break }
+    ensures kept { map (λ e. told_in Windows e.text) windows_texts_that_keep ≡ map (λ e. e.told) windows_texts_that_keep }
 {}
 
 /// Two texts and the interfaces that they mean: a struct that ends with a conformant array, and a directory with enumerators, a union, texts
