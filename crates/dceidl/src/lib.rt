@@ -37,6 +37,7 @@ usage: dceidl compile IDL ACF
        dceidl call IDL ACF OP
        dceidl wrap IDL ACF OP SIDE ORDER CALL MAX
        dceidl compat OLD OLDACF NEW NEWACF [why]
+       dceidl windows COMMAND ..
        dceidl session
        dceidl sample SEED COUNT
        dceidl why [WORD ..]
@@ -71,6 +72,9 @@ compat   compares two versions of an interface, and writes how many operations
          the file OLD has if each of them has the same octets for the same
          values in the file NEW. With `why`, if an operation differs, it also
          writes the first place at which it does.
+windows  does one of the commands above with files of IDL in the windows
+         language, in which `any_size` and `any_length` are attributes: counts
+         that nothing states.
 session  reads a script of lines, `open CLIENT UUID`, `use UUID TEXT`,
          `close UUID` and `down CLIENT`, and does what they say with the files
          res0.out to res7.out of the current folder: opens the next one under
