@@ -225,6 +225,14 @@ uint32_t dceidl_version(void);
    or the name of a file is not UTF-8. MEMORY. */
 uint32_t dceidl_compile(const dceidl_file *files, size_t count, size_t acf, dceidl_interface *interface, dceidl_fault *fault);
 
+/* The languages of files of IDL: that of dceidl_compile, and the same with the words `any_size` and `any_length` (docs/WINDOWS.md). */
+#define DCEIDL_C706 0u
+#define DCEIDL_WINDOWS 1u
+
+/* The same as dceidl_compile, with the files of IDL in a language. ARGUMENT also where there is no such language. */
+uint32_t dceidl_compile_language(uint32_t language, const dceidl_file *files, size_t count, size_t acf, dceidl_interface *interface,
+                                 dceidl_fault *fault);
+
 /* Fills another handle with the same interface, in constant time. EMPTY, MEMORY. */
 uint32_t dceidl_interface_again(dceidl_interface *interface, dceidl_interface *again);
 

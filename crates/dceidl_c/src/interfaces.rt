@@ -2,10 +2,12 @@
 ghost use Rattle.std.specs.Prelude.{◌≡◌, ◌≤◌, ◌<◌, length, take, drop, Some, None, true, is_some, IsSomeAnd, IsUtf8};
 ghost use Rattle.std.specs.List.{slice_get};
 ghost use Rattle.nd_types.specs.Roots.{operation_named};
+ghost use Rattle.idl_grammar.specs.declared.language.Language.TheVariants.{C706 as InC706, Windows as InWindows};
 ghost use Rattle.library_interface.specs.Named.{HasBadName};
 ghost use Rattle.library_answers.specs.Answers.{interface_in, refusal_in};
 ghost use Rattle.library_answers.specs.Compiling.{IsFilesCompile, IsFilesRefusal};
 
+use idl_grammar::Language;
 use library_answers::{
     ABSENT, ARGUMENT, EMPTY, MEMORY, OK, REFUSED, SHORT, compile, find_operation, free, share,
     write_name,
@@ -34,15 +36,49 @@ pub extern "C" fn dceidl_compile(
     ensures known { result ≤ REFUSED }
     ensures not_empty { result ≡ EMPTY → ⊥ }
     ensures not_short { result ≡ SHORT → ⊥ }
-    ensures compiled { result ≡ OK → IsSomeAnd (interface_in interface.new.value) (λ i. IsFilesCompile files.now acf i) }
-    ensures refused { result ≡ REFUSED → IsSomeAnd (refusal_in fault.new.value) (λ e. IsFilesRefusal files.now acf e) }
+    ensures compiled { result ≡ OK → IsSomeAnd (interface_in interface.new.value) (λ i. IsFilesCompile InC706 files.now acf i) }
+    ensures refused { result ≡ REFUSED → IsSomeAnd (refusal_in fault.new.value) (λ e. IsFilesRefusal InC706 files.now acf e) }
     ensures argument { result ≡ ARGUMENT → acf < length files.now → HasBadName files.now }
     ensures there { (result ≡ ARGUMENT → ⊥) → acf < length files.now }
     ensures named { result ≡ OK → HasBadName files.now → ⊥ }
     ensures interface_kept { (result ≡ OK → ⊥) → interface.new.value ≡ interface.old.value }
     ensures fault_kept { (result ≡ REFUSED → ⊥) → fault.new.value ≡ fault.old.value }
 {
-    compile(alloc, files, acf, interface, fault)
+    compile(alloc, Language::C706, files, acf, interface, fault)
+}
+
+/// The same in a language: 0 is that of C706, 1 the windows language.
+#[unsafe(no_mangle)]
+pub extern "C" fn dceidl_compile_language(
+    alloc: Global,
+    language: u32,
+    files: &[File<'_>],
+    acf: usize,
+    interface: &mut Handle,
+    fault: &mut Handle,
+) -> u32
+    ensures known { result ≤ REFUSED }
+    ensures not_empty { result ≡ EMPTY → ⊥ }
+    ensures not_short { result ≡ SHORT → ⊥ }
+    ensures c706 { language ≡ 0 → result ≡ OK → IsSomeAnd (interface_in interface.new.value) (λ i. IsFilesCompile InC706 files.now acf i) }
+    ensures windows { language ≡ 1 → result ≡ OK → IsSomeAnd (interface_in interface.new.value) (λ i. IsFilesCompile InWindows files.now acf i) }
+    ensures c706_refused { language ≡ 0 → result ≡ REFUSED → IsSomeAnd (refusal_in fault.new.value) (λ e. IsFilesRefusal InC706 files.now acf e) }
+    ensures windows_refused { language ≡ 1 → result ≡ REFUSED
+        → IsSomeAnd (refusal_in fault.new.value) (λ e. IsFilesRefusal InWindows files.now acf e) }
+    ensures other { 2 ≤ language → result ≡ ARGUMENT }
+    ensures argument { language < 2 → result ≡ ARGUMENT → acf < length files.now → HasBadName files.now }
+    ensures there { (result ≡ ARGUMENT → ⊥) → acf < length files.now }
+    ensures named { result ≡ OK → HasBadName files.now → ⊥ }
+    ensures interface_kept { (result ≡ OK → ⊥) → interface.new.value ≡ interface.old.value }
+    ensures fault_kept { (result ≡ REFUSED → ⊥) → fault.new.value ≡ fault.old.value }
+{
+    if language == 0 {
+        return compile(alloc, Language::C706, files, acf, interface, fault);
+    }
+    if language == 1 {
+        return compile(alloc, Language::Windows, files, acf, interface, fault);
+    }
+    ARGUMENT
 }
 
 /// Fills another handle with the same interface.

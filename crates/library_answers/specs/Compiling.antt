@@ -1,6 +1,8 @@
 -- What files that a program lends are compiled to, and why they are refused.
--- `idl` is the name of the main file, `acf` that of the attribute configuration file, or its number.
+-- `idl` is the main file as it is named, `acf` the name of the attribute configuration file, or its number.
 use Rattle.std.specs.Prelude.{◌≡◌, ℕ, zero, suc, List, Option, None, option_map, slice_get, IsSomeAnd}
+use Rattle.idl_grammar.specs.declared.language.Language.{Language}
+use Rattle.idl_grammar.specs.Files.{Idl}
 use Rattle.nd_types.specs.declared.interface.Interface.{Interface}
 use Rattle.library_interface.specs.declared.file.File.{File}
 use Rattle.library_interface.specs.Named.{named_after}
@@ -9,11 +11,11 @@ use Rattle.command_refusals.specs.declared.refusal.Refusal.TheVariants.{Memory}
 use Rattle.library_interface.specs.CompiledOf.{IsCompiledOf, IsCompileCause}
 
 -- the files mean the interface
-abbrev pub IsCompile : List File → List ℕ → Option (List ℕ) → Interface → Type 0
+abbrev pub IsCompile : List File → Idl → Option (List ℕ) → Interface → Type 0
 IsCompile files idl acf i = IsCompiledOf (λ name. named_after files name None) idl acf i
 
 -- the files are refused, and memory is not the reason
-abbrev pub IsCompileRefusal : List File → List ℕ → Option (List ℕ) → Refusal → Type 0
+abbrev pub IsCompileRefusal : List File → Idl → Option (List ℕ) → Refusal → Type 0
 IsCompileRefusal files idl acf e = (e ≡ Memory → ⊥) × IsCompileCause (λ name. named_after files name None) idl acf e
 
 -- ## By the numbers of files
@@ -26,10 +28,12 @@ abbrev pub acf_name : List File → ℕ → Option (List ℕ)
 acf_name files zero = None
 acf_name files (suc k) = name_of_file files (suc k)
 
--- the first file, with what it imports, means the interface
-abbrev pub IsFilesCompile : List File → ℕ → Interface → Type 0
-IsFilesCompile files acf i = IsSomeAnd (name_of_file files 0) (λ idl. IsCompile files idl (acf_name files acf) i)
+-- the first file, with what it imports, means the interface in a language
+abbrev pub IsFilesCompile : Language → List File → ℕ → Interface → Type 0
+IsFilesCompile language files acf i =
+    IsSomeAnd (name_of_file files 0) (λ name. IsCompile files (record { name = name; language = language }) (acf_name files acf) i)
 
 -- it is refused, and memory is not the reason
-abbrev pub IsFilesRefusal : List File → ℕ → Refusal → Type 0
-IsFilesRefusal files acf e = IsSomeAnd (name_of_file files 0) (λ idl. IsCompileRefusal files idl (acf_name files acf) e)
+abbrev pub IsFilesRefusal : Language → List File → ℕ → Refusal → Type 0
+IsFilesRefusal language files acf e =
+    IsSomeAnd (name_of_file files 0) (λ name. IsCompileRefusal files (record { name = name; language = language }) (acf_name files acf) e)

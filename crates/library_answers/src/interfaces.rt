@@ -2,22 +2,25 @@
 ghost use Rattle.std.specs.Prelude.{◌≡◌, ◌≤◌, ◌<◌, length, take, drop, Some, None, option_map, IfSome, IsSomeAnd, IsUtf8};
 ghost use Rattle.std.specs.List.{slice_get};
 ghost use Rattle.nd_types.specs.Roots.{operation_named};
+ghost use Rattle.idl_grammar.specs.Files.{seen_idl};
 ghost use Rattle.library_interface.specs.Named.{HasBadName};
 ghost use Rattle.library_answers.specs.Answers.{interface_in, refusal_in};
 ghost use Rattle.library_answers.specs.Compiling.{IsCompile, IsCompileRefusal, IsFilesCompile, IsFilesRefusal, name_of_file};
 
 use crate::answers::{ABSENT, ARGUMENT, EMPTY, MEMORY, OK, REFUSED, SHORT, fill, lay_out, refuse};
+use idl_grammar::{IdlFile, Language};
 use library_handles::{Handle, Held};
 use library_interface::{CompileFault, Compiled, File, compile_files};
 use std::alloc::Global;
 use std::rc::Rc;
 use std::str::from_utf8;
 
-/// Compiles the first file with what it imports, beside the attribute configuration file of the number `acf`, if that is not 0. Fills the interface
-/// or the fault. Takes memory for the interface, and for the files while it compiles.
+/// Compiles the first file with what it imports in a language, beside the attribute configuration file of the number `acf`, if that is not 0. Fills
+/// the interface or the fault. Takes memory for the interface, and for the files while it compiles.
 #[tactic(auto, using(crate::proofs::Files::compiling))]
 pub fn compile(
     alloc: Global,
+    language: Language,
     files: &[File<'_>],
     acf: usize,
     interface: &mut Handle,
@@ -26,24 +29,25 @@ pub fn compile(
     ensures known { result ≤ REFUSED }
     ensures not_empty { result ≡ EMPTY → ⊥ }
     ensures not_short { result ≡ SHORT → ⊥ }
-    ensures compiled { result ≡ OK → IsSomeAnd (interface_in interface.new.value) (λ i. IsFilesCompile files.now acf i) }
-    ensures refused { result ≡ REFUSED → IsSomeAnd (refusal_in fault.new.value) (λ e. IsFilesRefusal files.now acf e) }
+    ensures compiled { result ≡ OK → IsSomeAnd (interface_in interface.new.value) (λ i. IsFilesCompile language files.now acf i) }
+    ensures refused { result ≡ REFUSED → IsSomeAnd (refusal_in fault.new.value) (λ e. IsFilesRefusal language files.now acf e) }
     ensures argument { result ≡ ARGUMENT → acf < length files.now → HasBadName files.now }
     ensures there { (result ≡ ARGUMENT → ⊥) → acf < length files.now }
     ensures named { result ≡ OK → HasBadName files.now → ⊥ }
     ensures interface_kept { (result ≡ OK → ⊥) → interface.new.value ≡ interface.old.value }
     ensures fault_kept { (result ≡ REFUSED → ⊥) → fault.new.value ≡ fault.old.value }
 {
-    let Some(idl) = name_of(files, 0) else {
+    let Some(name) = name_of(files, 0) else {
         return ARGUMENT;
     };
+    let idl = IdlFile { name, language };
     if acf == 0 {
         return compile_named(alloc, files, idl, None, interface, fault);
     }
-    let Some(name) = name_of(files, acf) else {
+    let Some(beside) = name_of(files, acf) else {
         return ARGUMENT;
     };
-    compile_named(alloc, files, idl, Some(name), interface, fault)
+    compile_named(alloc, files, idl, Some(beside), interface, fault)
 }
 
 // The name of a file, if there is one of that number and its name is UTF-8.
@@ -76,7 +80,7 @@ fn octets_of_name<'a>(files: &[File<'a>], number: usize) -> &'a [u8]
 fn compile_named(
     alloc: Global,
     files: &[File<'_>],
-    idl: &str,
+    idl: IdlFile<'_>,
     acf: Option<&str>,
     interface: &mut Handle,
     fault: &mut Handle,
@@ -85,9 +89,9 @@ fn compile_named(
     ensures not_empty { result ≡ EMPTY → ⊥ }
     ensures not_short { result ≡ SHORT → ⊥ }
     ensures compiled { result ≡ OK → IsSomeAnd (interface_in interface.new.value)
-        (λ i. IsCompile files.now idl.now (option_map (λ a. a.now) acf.entry) i) }
+        (λ i. IsCompile files.now (seen_idl idl.entry) (option_map (λ a. a.now) acf.entry) i) }
     ensures refused { result ≡ REFUSED → IsSomeAnd (refusal_in fault.new.value)
-        (λ e. IsCompileRefusal files.now idl.now (option_map (λ a. a.now) acf.entry) e) }
+        (λ e. IsCompileRefusal files.now (seen_idl idl.entry) (option_map (λ a. a.now) acf.entry) e) }
     ensures argument { result ≡ ARGUMENT → HasBadName files.now }
     ensures named { result ≡ OK → HasBadName files.now → ⊥ }
     ensures interface_kept { (result ≡ OK → ⊥) → interface.new.value ≡ interface.old.value }
