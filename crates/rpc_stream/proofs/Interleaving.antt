@@ -1,9 +1,14 @@
 -- What ends under a call id depends on the PDUs of that id alone, and no PDU is lost.
 use Rattle.std.proofs.Common.{◌≡◌, ◌∙◌, ℕ, Bool, true, false, not, ◌==◌, List, [], ◌∷◌, ◌++◌, Option, Some, None, refl, ap, sym, append_assoc, append-nil, eqb-true, slice_index}
-use Rattle.rpc_stream.specs.Pdus.{call_of}
-use Rattle.rpc_stream.specs.Calls.{Pdu, Part, sole, opening, middle, closing, stopping, part_of, Open, Ended, complete, cut_off, stopped, stray}
-use Rattle.rpc_stream.specs.Calls.{next_by, ended_by, next, ended, ended_all, open_after, Ids, nothing_open, put_by, put, run, pick_by, ended_of, keep_by, of_id, From, in_calls, calls_of, others_of}
-use Rattle.rpc_stream.specs.Calls.{Woven, none_woven, from_left, from_right, AllHave, NoneHas, reported, reported_all, still_open}
+use Rattle.rpc_stream.specs.declared.call.Peer.{Peer}
+use Rattle.rpc_stream.specs.declared.call.Pdu.{Pdu}
+use Rattle.rpc_stream.specs.declared.call.Part.{Part}
+use Rattle.rpc_stream.specs.declared.call.Part.TheVariants.{Sole, Opening, Middle, Closing, Stopping}
+use Rattle.rpc_stream.specs.declared.call.Ended.{Ended}
+use Rattle.rpc_stream.specs.declared.call.Ended.TheVariants.{Complete, CutOff, Stopped, Stray}
+use Rattle.rpc_stream.specs.Calls.{id_of, part_of, Open, next_by, ended_by, next, ended, ended_all, open_after, Ids, nothing_open, put_by, put, run, pick_by, ended_of}
+use Rattle.rpc_stream.specs.Calls.{keep_by, of_id, in_calls, calls_of, others_of, Woven, none_woven, from_left, from_right, AllHave, NoneHas}
+use Rattle.rpc_stream.specs.Calls.{reported, reported_all, still_open}
 
 -- ## Each id alone
 
@@ -15,8 +20,8 @@ by_id m c d p ps rest false e h = h
 pub alone : (c : ℕ) (ps : List Pdu) (m : Ids) → ended_of c (run m ps) ≡ ended_all (m c) (of_id c ps)
 alone c [] m = refl
 alone c (p ∷ ps) m =
-    by_id m c (call_of p) p (of_id c ps) (ended_of c (run (put m (call_of p) (next (m (call_of p)) p)) ps)) (call_of p == c) refl
-    (alone c ps (put m (call_of p) (next (m (call_of p)) p)))
+    by_id m c (id_of p) p (of_id c ps) (ended_of c (run (put m (id_of p) (next (m (id_of p)) p)) ps)) (id_of p == c) refl
+    (alone c ps (put m (id_of p) (next (m (id_of p)) p)))
 
 -- ## Among others
 
@@ -36,16 +41,16 @@ reported_more (e ∷ es) b = ap (λ l. reported e ++ l) (reported_more es b) ∙
 
 -- one PDU is added
 step_by : (s : Open) (part : Part) (p : Pdu) → reported_all (ended_by s part p) ++ still_open (next_by s part p) ≡ still_open s ++ (p ∷ [])
-step_by None sole p = refl
-step_by None opening p = refl
-step_by None middle p = refl
-step_by None closing p = refl
-step_by None stopping p = refl
-step_by (Some g) sole p = append-nil (g ++ (p ∷ []))
-step_by (Some g) opening p = ap (λ l. l ++ (p ∷ [])) (append-nil g)
-step_by (Some g) middle p = refl
-step_by (Some g) closing p = append-nil ((g ++ (p ∷ [])) ++ []) ∙ append-nil (g ++ (p ∷ []))
-step_by (Some g) stopping p = append-nil ((g ++ (p ∷ [])) ++ []) ∙ append-nil (g ++ (p ∷ []))
+step_by None Sole p = refl
+step_by None Opening p = refl
+step_by None Middle p = refl
+step_by None Closing p = refl
+step_by None Stopping p = refl
+step_by (Some g) Sole p = append-nil (g ++ (p ∷ []))
+step_by (Some g) Opening p = ap (λ l. l ++ (p ∷ [])) (append-nil g)
+step_by (Some g) Middle p = refl
+step_by (Some g) Closing p = append-nil ((g ++ (p ∷ [])) ++ []) ∙ append-nil (g ++ (p ∷ []))
+step_by (Some g) Stopping p = append-nil ((g ++ (p ∷ [])) ++ []) ∙ append-nil (g ++ (p ∷ []))
 
 pub kept : (ps : List Pdu) (s : Open) → reported_all (ended_all s ps) ++ still_open (open_after s ps) ≡ still_open s ++ ps
 kept [] s = sym (append-nil (still_open s))
@@ -66,6 +71,6 @@ by_side : (b : Bool) (p : Pdu) (ls rs ps : List Pdu) → Woven ls rs ps → Wove
 by_side true p ls rs ps w = from_left p ls rs ps w
 by_side false p ls rs ps w = from_right p ls rs ps w
 
-pub each_in_one : (side : From) (ps : List Pdu) → Woven (calls_of side ps) (others_of side ps) ps
+pub each_in_one : (side : Peer) (ps : List Pdu) → Woven (calls_of side ps) (others_of side ps) ps
 each_in_one side [] = none_woven
-each_in_one side (p ∷ ps) = by_side (in_calls side (slice_index p 2)) p (calls_of side ps) (others_of side ps) ps (each_in_one side ps)
+each_in_one side (p ∷ ps) = by_side (in_calls side (slice_index p.octets 2)) p (calls_of side ps) (others_of side ps) ps (each_in_one side ps)

@@ -1,33 +1,44 @@
 -- The calls among the PDUs of one side (C706 12.6). A client's calls are requests, which an orphaned PDU may stop, and binds and alter-contexts. A
 -- server's are responses, which a fault may stop, and the answers to binds and alter-contexts. A fragment belongs to the open call of its call id.
-use Rattle.std.specs.Prelude.{◌≡◌, ℕ, Bool, true, false, not, ◌&&◌, ◌||◌, ◌==◌, nat_lt, bit_and, List, [], ◌∷◌, ◌++◌, Option, Some, None, slice_index}
+use Rattle.std.specs.Prelude.{◌≡◌, ℕ, ◌+◌, ◌%◌, ◌^◌, length, Bool, true, false, not, ◌&&◌, ◌||◌, ◌==◌, nat_lt, bit_and, List}
+use Rattle.std.specs.Prelude.{[], ◌∷◌, ◌++◌, Option, Some, None, slice_index}
+use Rattle.rpc_stream.specs.declared.call.Peer.{Peer}
+use Rattle.rpc_stream.specs.declared.call.Peer.TheVariants.{Client, Server}
+use Rattle.rpc_stream.specs.declared.call.Pdu.{Pdu}
+use Rattle.rpc_stream.specs.declared.call.Part.{Part}
+use Rattle.rpc_stream.specs.declared.call.Part.TheVariants.{Sole, Opening, Middle, Closing, Stopping}
+use Rattle.rpc_stream.specs.declared.call.Ended.{Ended}
+use Rattle.rpc_stream.specs.declared.call.Ended.TheVariants.{Complete, CutOff, Stopped, Stray}
 use Rattle.rpc_stream.specs.Pdus.{call_of}
 
-abbrev pub Pdu : Type 0
-Pdu = List ℕ
+-- ## The PDUs of a stream
 
--- what a PDU is to its call: all of it, its first fragment, one between, its last, or what stops it
-pub data Part : Type 0 where
-  sole : Part
-  opening : Part
-  middle : Part
-  closing : Part
-  stopping : Part
+-- with the place of each, where the first begins at `at`
+abbrev pub placed : ℕ → List (List ℕ) → List Pdu
+placed at [] = []
+placed at (p ∷ ps) = record { at = at; octets = p } ∷ placed ((at + length p) % 2 ^ 64) ps
+
+abbrev pub id_of : Pdu → ℕ
+id_of p = call_of p.octets
+
+-- ## What a PDU is to its call
 
 abbrev pub part_by : Bool → Bool → Bool → Bool → Part
-part_by true alone first last = stopping
-part_by false true first last = sole
-part_by false false true true = sole
-part_by false false true false = opening
-part_by false false false true = closing
-part_by false false false false = middle
+part_by true alone first last = Stopping
+part_by false true first last = Sole
+part_by false false true true = Sole
+part_by false false true false = Opening
+part_by false false false true = Closing
+part_by false false false false = Middle
 
 -- PDU types: orphaned is 19, fault is 3; binds, alter-contexts and their answers are 11 to 15, and have no fragments. Flags: the first fragment has
 -- 1, the last has 2.
+abbrev pub part_at : ℕ → ℕ → Part
+part_at kind flags =
+    part_by (kind == 19 || kind == 3) (nat_lt 10 kind && nat_lt kind 16) (not (bit_and flags 1 == 0)) (not (bit_and flags 2 == 0))
+
 abbrev pub part_of : Pdu → Part
-part_of p =
-    part_by (slice_index p 2 == 19 || slice_index p 2 == 3) (nat_lt 10 (slice_index p 2) && nat_lt (slice_index p 2) 16)
-    (not (bit_and (slice_index p 3) 1 == 0)) (not (bit_and (slice_index p 3) 2 == 0))
+part_of p = part_at (slice_index p.octets 2) (slice_index p.octets 3)
 
 -- ## The calls of one id
 
@@ -35,40 +46,29 @@ part_of p =
 abbrev pub Open : Type 0
 Open = Option (List Pdu)
 
--- how a call ends: its fragments, when no more can be added to them
-pub data Ended : Type 0 where
-  -- a first fragment, those after it, and the last
-  complete : List Pdu → Ended
-  -- another first fragment came before the last
-  cut_off : List Pdu → Ended
-  -- the fragments so far, and the PDU that stopped them
-  stopped : List Pdu → Pdu → Ended
-  -- no call of this id is open, and this begins none
-  stray : Pdu → Ended
-
 abbrev pub next_by : Open → Part → Pdu → Open
-next_by None sole p = None
-next_by None opening p = Some (p ∷ [])
-next_by None middle p = None
-next_by None closing p = None
-next_by None stopping p = None
-next_by (Some g) sole p = None
-next_by (Some g) opening p = Some (p ∷ [])
-next_by (Some g) middle p = Some (g ++ (p ∷ []))
-next_by (Some g) closing p = None
-next_by (Some g) stopping p = None
+next_by None Sole p = None
+next_by None Opening p = Some (p ∷ [])
+next_by None Middle p = None
+next_by None Closing p = None
+next_by None Stopping p = None
+next_by (Some g) Sole p = None
+next_by (Some g) Opening p = Some (p ∷ [])
+next_by (Some g) Middle p = Some (g ++ (p ∷ []))
+next_by (Some g) Closing p = None
+next_by (Some g) Stopping p = None
 
 abbrev pub ended_by : Open → Part → Pdu → List Ended
-ended_by None sole p = complete (p ∷ []) ∷ []
-ended_by None opening p = []
-ended_by None middle p = stray p ∷ []
-ended_by None closing p = stray p ∷ []
-ended_by None stopping p = stopped [] p ∷ []
-ended_by (Some g) sole p = cut_off g ∷ (complete (p ∷ []) ∷ [])
-ended_by (Some g) opening p = cut_off g ∷ []
-ended_by (Some g) middle p = []
-ended_by (Some g) closing p = complete (g ++ (p ∷ [])) ∷ []
-ended_by (Some g) stopping p = stopped g p ∷ []
+ended_by None Sole p = Complete (p ∷ []) ∷ []
+ended_by None Opening p = []
+ended_by None Middle p = Stray p ∷ []
+ended_by None Closing p = Stray p ∷ []
+ended_by None Stopping p = Stopped [] p ∷ []
+ended_by (Some g) Sole p = CutOff g ∷ (Complete (p ∷ []) ∷ [])
+ended_by (Some g) Opening p = CutOff g ∷ []
+ended_by (Some g) Middle p = []
+ended_by (Some g) Closing p = Complete (g ++ (p ∷ [])) ∷ []
+ended_by (Some g) Stopping p = Stopped g p ∷ []
 
 abbrev pub next : Open → Pdu → Open
 next s p = next_by s (part_of p) p
@@ -103,7 +103,7 @@ put m d s c = put_by (d == c) s (m c)
 -- what ends with each PDU, with the PDU's call id
 abbrev pub run : Ids → List Pdu → List (ℕ × List Ended)
 run m [] = []
-run m (p ∷ ps) = (call_of p, ended (m (call_of p)) p) ∷ run (put m (call_of p) (next (m (call_of p)) p)) ps
+run m (p ∷ ps) = (id_of p, ended (m (id_of p)) p) ∷ run (put m (id_of p) (next (m (id_of p)) p)) ps
 
 -- what ends under one id
 abbrev pub pick_by : Bool → List Ended → List Ended → List Ended
@@ -121,26 +121,22 @@ keep_by false p ps = ps
 
 abbrev pub of_id : ℕ → List Pdu → List Pdu
 of_id c [] = []
-of_id c (p ∷ ps) = keep_by (call_of p == c) p (of_id c ps)
+of_id c (p ∷ ps) = keep_by (id_of p == c) p (of_id c ps)
 
 -- ## Which PDUs are parts of calls
 
-pub data From : Type 0 where
-  by_client : From
-  by_server : From
-
 -- whether PDUs of this type are parts of a side's calls. Not so: auth3, shutdown, cancel, and types that the other side sends.
-abbrev pub in_calls : From → ℕ → Bool
-in_calls by_client kind = kind == 0 || (kind == 11 || (kind == 14 || kind == 19))
-in_calls by_server kind = kind == 2 || (kind == 3 || (kind == 12 || (kind == 13 || kind == 15)))
+abbrev pub in_calls : Peer → ℕ → Bool
+in_calls Client kind = kind == 0 || (kind == 11 || (kind == 14 || kind == 19))
+in_calls Server kind = kind == 2 || (kind == 3 || (kind == 12 || (kind == 13 || kind == 15)))
 
-abbrev pub calls_of : From → List Pdu → List Pdu
+abbrev pub calls_of : Peer → List Pdu → List Pdu
 calls_of side [] = []
-calls_of side (p ∷ ps) = keep_by (in_calls side (slice_index p 2)) p (calls_of side ps)
+calls_of side (p ∷ ps) = keep_by (in_calls side (slice_index p.octets 2)) p (calls_of side ps)
 
-abbrev pub others_of : From → List Pdu → List Pdu
+abbrev pub others_of : Peer → List Pdu → List Pdu
 others_of side [] = []
-others_of side (p ∷ ps) = keep_by (not (in_calls side (slice_index p 2))) p (others_of side ps)
+others_of side (p ∷ ps) = keep_by (not (in_calls side (slice_index p.octets 2))) p (others_of side ps)
 
 -- ## Interleaving
 
@@ -153,19 +149,19 @@ pub data Woven : List Pdu → List Pdu → List Pdu → Type 0 where
 -- all PDUs, and none, have this call id
 abbrev pub AllHave : ℕ → List Pdu → Type 0
 AllHave c [] = Unit {0}
-AllHave c (p ∷ ps) = ((call_of p == c) ≡ true) × AllHave c ps
+AllHave c (p ∷ ps) = ((id_of p == c) ≡ true) × AllHave c ps
 
 abbrev pub NoneHas : ℕ → List Pdu → Type 0
 NoneHas c [] = Unit {0}
-NoneHas c (p ∷ ps) = ((call_of p == c) ≡ false) × NoneHas c ps
+NoneHas c (p ∷ ps) = ((id_of p == c) ≡ false) × NoneHas c ps
 
 -- ## Which PDUs are reported
 
 abbrev pub reported : Ended → List Pdu
-reported (complete g) = g
-reported (cut_off g) = g
-reported (stopped g p) = g ++ (p ∷ [])
-reported (stray p) = p ∷ []
+reported (Complete g) = g
+reported (CutOff g) = g
+reported (Stopped g p) = g ++ (p ∷ [])
+reported (Stray p) = p ∷ []
 
 abbrev pub reported_all : List Ended → List Pdu
 reported_all [] = []

@@ -3,7 +3,9 @@ ghost use Rattle.std.specs.Prelude.{◌≡◌, ℕ, ◌≤◌, List, [], ◌∷�
 ghost use Rattle.rpc_stream.specs.declared.stated.First.TheVariants.{Waiting, Whole, Wrong};
 ghost use Rattle.rpc_stream.specs.declared.stated.StreamReason.{StreamReason};
 ghost use Rattle.rpc_stream.specs.Pdus.{first_of, joined, Cut, Fed, lacking_of, IsTaken};
-ghost use Rattle.rpc_stream.specs.Calls.{Pdu, From, nothing_open, run, ended_of, ended_all, open_after, of_id, calls_of, others_of, Woven};
+ghost use Rattle.rpc_stream.specs.declared.call.Peer.{Peer};
+ghost use Rattle.rpc_stream.specs.declared.call.Pdu.{Pdu};
+ghost use Rattle.rpc_stream.specs.Calls.{nothing_open, run, ended_of, ended_all, open_after, of_id, calls_of, others_of, Woven};
 ghost use Rattle.rpc_stream.specs.Calls.{AllHave, NoneHas, reported_all, still_open};
 
 /// Any octets are PDUs and then a rest that begins with none, in exactly one way.
@@ -50,5 +52,5 @@ pub fn any_interleaving()
 pub fn nothing_lost()
     ensures by_id { (c : ℕ) (ps : List Pdu)
         → reported_all (ended_of c (run nothing_open ps)) ++ still_open (open_after None (of_id c ps)) ≡ of_id c ps }
-    ensures of_side { (side : From) (ps : List Pdu) → Woven (calls_of side ps) (others_of side ps) ps }
+    ensures of_side { (side : Peer) (ps : List Pdu) → Woven (calls_of side ps) (others_of side ps) ps }
 {}
