@@ -26,10 +26,12 @@ use Rattle.idl_compat_place.specs.declared.trail.End.{End}
 use Rattle.idl_compat_place.specs.declared.places.Place.{Place}
 use Rattle.idl_compat_place.specs.declared.places.Difference.{Difference}
 use Rattle.idl_compat_place.specs.declared.places.Difference.TheVariants as difference
-use Rattle.idl_compat_place.specs.Differences.{part_type, AlikeOrResults, AlikeParts, AlikePartsAt, AreHandles, AreAlikeUpTo, AreAsMany, IsUpTo, IsFirstDifference, IsFound, AreClashing, part_of}
-use Rattle.idl_compat_place.specs.Trails.{IsOrigin, IsRefuted, IsEnd, IsPlaced, WalksFrom, AreWanted, IsWalkedTo, IsFoundAt}
+use Rattle.idl_compat_place.specs.Differences.{part_type, AlikeOrResults, AlikeParts, AlikePartsAt, AreHandles, AreAlikeUpTo, AreAsMany, IsPartBefore, IsVisitedBefore}
+use Rattle.idl_compat_place.specs.Differences.{IsFirstDifference, IsFound, AreClashing, part_of}
+use Rattle.idl_compat_place.specs.Trails.{IsOrigin, IsRefuted, IsEnd, IsPlaced, IsPath, IsEndInOrder, WalksFrom, AreWanted, IsWalkedTo, IsFoundAt}
 use Rattle.idl_compat_place.specs.Trails.{IsFinding, IsDifferenceAt, AreOtherParams, AreOtherForms, WalksPart, WalksParams, WalksOperation, WalksAll}
-use Rattle.idl_compat_place.proofs.Trailing.{trail_next}
+use Rattle.idl_compat_place.proofs.Trailing.{trail_next, IsNext, below_or_from}
+use Rattle.idl_compat_place.proofs.Ordered.{end_before, own_origin, own_there, steps_before}
 use Rattle.idl_compat_place.proofs.Walked.{kept}
 
 -- ## What two parameters ask for
@@ -79,13 +81,15 @@ module _ (R S : ℕ → ℕ → Type 0) (f : (t u : ℕ) → R t u → S t u) wh
   parts_grow (Some o) None n a = absurd a
   parts_grow (Some o) (Some q) n a = results_grow o.result q.result (slice_get o.params n) (slice_get q.params n) a
 
-up_next : (k n j i : ℕ) → IsUpTo k n j i → IsUpTo k (suc n) j i
-up_next k n j i (inl l) = inl l
-up_next k n j i (inr (e, l)) = inr (e, omega (arith, l))
+up_next : (k n : ℕ) → IsNext k n k (suc n)
+up_next k n j i (inl (inl l)) = inl l
+up_next k n j i (inl (inr (e, l))) = inr (e, omega (arith, l))
+up_next k n j i (inr (e, f)) = inr (e, omega (arith, f))
 
-up_over : (k n j i : ℕ) → IsUpTo k n j i → IsUpTo (suc k) 0 j i
-up_over k n j i (inl l) = inl (omega (arith, l))
-up_over k n j i (inr (e, l)) = inl (omega (arith, e))
+up_over : (k n : ℕ) → IsNext k n (suc k) 0
+up_over k n j i (inl (inl l)) = inl (omega (arith, l))
+up_over k n j i (inl (inr (e, l))) = inl (omega (arith, e))
+up_over k n j i (inr (e, f)) = inl (omega (arith, e))
 
 module _ (old new : Interface) (k n : ℕ) (s : Trail) (a : IsWalkedTo old new k n s) where
   pub alike_up_to : AreAlikeUpTo old new k n
@@ -110,7 +114,7 @@ module _ (old new : Interface) (k n : ℕ) (s : Trail) (a : IsWalkedTo old new k
       pub part_origin : IsOrigin old new k n (length s.pairing.pairs) s.pairing.pairs (length s.pairing.pairs) p (origin.Part k n)
       part_origin =
           record {
-            up_to = inr (refl, omega arith);
+            earlier = λ l. absurd (omega (arith, l));
             own = λ l. (refl, refl);
             is_old = ap (λ x. part_type x n) is ∙ w.is_old;
             is_new = ap (λ x. part_type x n) is' ∙ w.is_new;
@@ -220,7 +224,7 @@ first_at old new z k n g d f h =
     }
 
 module _ (old new : Interface) (k n base : ℕ) (s : Trail) (p : TypePair) (g : Origin) (o : Option ℕ) (e : IsEnd old new k n base s (record { pair = p; origin = g; other = o }))
-    (l : Place) (place : IsPlaced old new k n base e.before l p) where
+    (l : Place) (place : IsPlaced old new k n base e.before l p) (path : IsPath s.origins g l.op l.part l.steps) where
   abbrev own : (l.op ≡ k) × (l.part ≡ n)
   own = place.own e.is_own
 
@@ -232,15 +236,33 @@ module _ (old new : Interface) (k n base : ℕ) (s : Trail) (p : TypePair) (g : 
         is_part = own.1;
       }
 
-  pub pairs_clash : (at : ℕ) → o ≡ Some at → (r : TypePair) → slice_get s.pairing.pairs at ≡ Some r → (l' : Place) → IsPlaced old new k n base at l' r
+  visited : (at : ℕ) → o ≡ Some at → IsEndInOrder base s.origins (record { pair = p; origin = g; other = o }) → (r : TypePair) → slice_get s.pairing.pairs at ≡ Some r
+      → (h : Origin) → slice_get s.origins at ≡ Some h → (l' : Place) → IsPlaced old new k n base at l' r → IsPath s.origins h l'.op l'.part l'.steps
+      → IsVisitedBefore l' l
+  visited at is order r there h of l' place' path' = by (below_or_from at base)
+    where
+      by : (at < base) ⊎ (base ≤ at) → IsVisitedBefore l' l
+      by (inl less) = inl (subst (λ x. IsPartBefore l'.op l'.part x l.part) (sym own.0) (subst (λ y. IsPartBefore l'.op l'.part k y) (sym own.1) (place'.earlier less)))
+      by (inr more) =
+          let b = end_before base s.origins (record { pair = p; origin = g; other = o }) at order is in
+          let here = place'.own more in
+          inr (
+            here.0 ∙ sym own.0,
+            here.1 ∙ sym own.1,
+            steps_before old new k n base s e.trail b.sorted l'.op l'.part l.op l.part l'.steps l.steps h g (own_there old new k n base s e.trail at h more of)
+                (own_origin old new k n base s.pairing.pairs e.before p g e.origin e.is_own) (b.before at h more of) path' path,
+          )
+
+  pub pairs_clash : (at : ℕ) → o ≡ Some at → IsEndInOrder base s.origins (record { pair = p; origin = g; other = o }) → (r : TypePair) → slice_get s.pairing.pairs at ≡ Some r
+      → (h : Origin) → slice_get s.origins at ≡ Some h → (l' : Place) → IsPlaced old new k n base at l' r → IsPath s.origins h l'.op l'.part l'.steps
       → IsDifferenceAt old new k n (difference.Clash l p l' r)
-  pairs_clash at is r there l' place' =
+  pairs_clash at is order r there h of l' place' path' =
       let (r', there', clashing) = subst (λ x. IsRefuted old new s.pairing.pairs p x) is e.refuted in
       record {
         differs = record {
           place = place.place;
           earlier = place'.place;
-          up_to = subst (λ x. IsUpTo x l.part l'.op l'.part) (sym own.0) (subst (λ y. IsUpTo k y l'.op l'.part) (sym own.1) place'.up_to);
+          is_earlier = visited at is order r there h of l' place' path';
           clashing = subst (AreClashing p) (same_Some r' r (sym there' ∙ there)) clashing;
         };
         is_op = own.0;
@@ -248,11 +270,11 @@ module _ (old new : Interface) (k n base : ℕ) (s : Trail) (p : TypePair) (g : 
       }
 
 pub ends_first : {E : Type 0} (old new : Interface) (s : Trail) (f : Finding) (e : End) → f.found ≡ found.Ends e → IsFinding old new s f → (r : Result Difference E)
-    → ((base : ℕ) → IsEnd old new f.op f.part base s e → IfOk r (IsDifferenceAt old new f.op f.part)) → IfOk r (IsFirstDifference old new)
+    → ((base : ℕ) → IsEnd old new f.op f.part base s e → IsEndInOrder base s.origins e → IfOk r (IsDifferenceAt old new f.op f.part)) → IfOk r (IsFirstDifference old new)
 ends_first old new s f e is h (Err x) by = tt
 ends_first old new s f e is h (Ok d) by =
     let end = subst (λ x. IsFoundAt old new f.op f.part s x) is h.found in
-    first_at old new s f.op f.part f.found d h (by end.0 end.1)
+    first_at old new s f.op f.part f.found d h (by end.0 end.1.0 end.1.1)
 
 -- ## What walks answer
 

@@ -21,12 +21,12 @@ use Rattle.idl_compat.proofs.Placed.{pair_left, pair_right, pair_split}
 use Rattle.idl_compat_place.specs.declared.origins.Origin.{Origin}
 use Rattle.idl_compat_place.specs.declared.origins.Origin.TheVariants as origin
 use Rattle.idl_compat_place.specs.declared.trail.Trail.{Trail}
-use Rattle.idl_compat_place.specs.Differences.{AreUnlike, AreClashing, IsUpTo}
+use Rattle.idl_compat_place.specs.Differences.{AreUnlike, AreClashing, IsPartBefore}
 use Rattle.idl_compat_place.specs.Trails.{IsOrigin, IsTrail, AreOtherBasic, AreApart, IsOther, IsRefuted, IsEnd, HasWalked, IsWalkedTo}
 
 -- ## Lists with one item more
 
-last_or_before : {X : Type 0} (xs : List X) (x y : X) (i : ℕ) → slice_get (xs ++ x ∷ []) i ≡ Some y
+pub last_or_before : {X : Type 0} (xs : List X) (x y : X) (i : ℕ) → slice_get (xs ++ x ∷ []) i ≡ Some y
     → ((i < length xs) × (slice_get xs i ≡ Some y)) ⊎ ((i ≡ length xs) × (x ≡ y))
 last_or_before [] x y zero e = inr (refl, same_Some x y e)
 last_or_before [] x y (suc i) e = cc
@@ -37,6 +37,15 @@ last_or_before (z ∷ xs) x y (suc i) e = by (last_or_before xs x y i e)
         → ((suc i < suc (length xs)) × (slice_get xs i ≡ Some y)) ⊎ ((suc i ≡ suc (length xs)) × (x ≡ y))
     by (inl (l, is)) = inl (omega (arith, l), is)
     by (inr (e, is)) = inr (ap suc e, is)
+
+pub below_or_from : (a b : ℕ) → (a < b) ⊎ (b ≤ a)
+below_or_from a zero = inr (omega arith)
+below_or_from zero (suc b) = inl (omega arith)
+below_or_from (suc a) (suc b) = by (below_or_from a b)
+  where
+    by : (a < b) ⊎ (b ≤ a) → (suc a < suc b) ⊎ (suc b ≤ suc a)
+    by (inl l) = inl (omega (arith, l))
+    by (inr l) = inr (omega (arith, l))
 
 -- ## Origins
 
@@ -55,15 +64,29 @@ origin_grows old new k n base pairs w before p (origin.Step from step) l h =
       is_new = h.is_new;
     }
 
-origin_next : (old new : Interface) (k n base k' n' base' : ℕ) → ((j i : ℕ) → IsUpTo k n j i → IsUpTo k' n' j i) → (pairs : List TypePair) (before : ℕ) → before < base'
+-- a part that was walked, or the one that is, is before the next
+abbrev pub IsNext : ℕ → ℕ → ℕ → ℕ → Type 0
+IsNext k n k' n' = (j i : ℕ) → IsPartBefore j i k n ⊎ ((j ≡ k) × (i ≡ n)) → IsPartBefore j i k' n'
+
+origin_next : (old new : Interface) (k n base k' n' base' : ℕ) → IsNext k n k' n' → (pairs : List TypePair) (before : ℕ) → before < base'
     → (p : TypePair) (g : Origin) → IsOrigin old new k n base pairs before p g → IsOrigin old new k' n' base' pairs before p g
 origin_next old new k n base k' n' base' up pairs before l p (origin.Part j i) h =
-    record { up_to = up j i h.up_to; own = λ l'. absurd (omega (arith, l, l')); is_old = h.is_old; is_new = h.is_new; no_handles = h.no_handles }
+    record {
+      earlier = λ l'. up j i (by (below_or_from before base));
+      own = λ l'. absurd (omega (arith, l, l'));
+      is_old = h.is_old;
+      is_new = h.is_new;
+      no_handles = h.no_handles;
+    }
+  where
+    by : (before < base) ⊎ (base ≤ before) → IsPartBefore j i k n ⊎ ((j ≡ k) × (i ≡ n))
+    by (inl less) = inl (h.earlier less)
+    by (inr more) = inr (h.own more)
 origin_next old new k n base k' n' base' up pairs before l p (origin.Step from step) h =
     record { pair = h.pair; is_earlier = h.is_earlier; own = λ l'. absurd (omega (arith, l, l')); is_pair = h.is_pair; is_old = h.is_old; is_new = h.is_new }
 
 -- a trail of the next part
-pub trail_next : (old new : Interface) (k n base k' n' : ℕ) (s : Trail) → ((j i : ℕ) → IsUpTo k n j i → IsUpTo k' n' j i) → IsTrail old new k n base s
+pub trail_next : (old new : Interface) (k n base k' n' : ℕ) (s : Trail) → IsNext k n k' n' → IsTrail old new k n base s
     → IsTrail old new k' n' (length s.pairing.pairs) s
 trail_next old new k n base k' n' s up a =
     record {

@@ -1,5 +1,5 @@
 -- The first place at which two interfaces differ.
-use Rattle.std.specs.Prelude.{◌≡◌, ◌⊎◌, ℕ, ◌<◌, ◌≤◌, zero, suc, List, [], ◌∷◌, length, Option, Some, None, slice_get}
+use Rattle.std.specs.Prelude.{◌≡◌, ◌⊎◌, ℕ, ◌<◌, zero, suc, List, [], ◌∷◌, length, Option, Some, None, slice_get, ⊤}
 use Rattle.nd_types.specs.declared.interface.Interface.{Interface}
 use Rattle.nd_types.specs.declared.types.TypeId.{TypeId}
 use Rattle.nd_types.specs.declared.types.Param.{Param}
@@ -127,6 +127,38 @@ pub record IsPlace (old new : Interface) (l : Place) (p : TypePair) : Type 0 whe
   pub new_led : led new.types (part_at new l.op l.part) l.steps ≡ Some p.new
   pub no_handles : AreHandles (slice_get old.operations l.op) (slice_get new.operations l.op) l.part → ⊥
 
+-- ## The order in which places are visited
+
+-- part `i` of operation `j` is before part `n` of operation `k`
+abbrev pub IsPartBefore : ℕ → ℕ → ℕ → ℕ → Type 0
+IsPartBefore j i k n = (j < k) ⊎ ((j ≡ k) × (i < n))
+
+-- From one type the parts are stepped to first, by their numbers, then a default arm, and then a tag.
+abbrev pub turn : Step → ℕ
+turn (step.Nth n) = 0
+turn step.Default = 1
+turn step.Tag = 2
+
+abbrev pub number : Step → ℕ
+number (step.Nth n) = n
+number step.Default = 0
+number step.Tag = 0
+
+abbrev pub IsStepBefore : Step → Step → Type 0
+IsStepBefore a b = (turn a < turn b) ⊎ ((turn a ≡ turn b) × (number a < number b))
+
+-- Steps from a type are before others from it, if they are fewer, or as many and the first that differs is before the other's. The last step is the
+-- first of each list.
+abbrev pub AreStepsBefore : List Step → List Step → Type 0
+AreStepsBefore [] [] = ⊥
+AreStepsBefore [] (b ∷ others) = ⊤
+AreStepsBefore (a ∷ steps) [] = ⊥
+AreStepsBefore (a ∷ steps) (b ∷ others) = AreStepsBefore steps others ⊎ ((steps ≡ others) × IsStepBefore a b)
+
+-- a place in an earlier part, or in the same one after steps that are before the other's
+abbrev pub IsVisitedBefore : Place → Place → Type 0
+IsVisitedBefore e l = IsPartBefore e.op e.part l.op l.part ⊎ ((e.op ≡ l.op) × (e.part ≡ l.part) × AreStepsBefore e.steps l.steps)
+
 -- ## The first difference
 
 -- `k` is the number of an operation, `n` of a part, `l` a place, `p` a pair of types, `e` an earlier place and `r` the types there, `m` a list of
@@ -141,15 +173,11 @@ AreUnlike old new p =
 abbrev pub AreClashing : TypePair → TypePair → Type 0
 AreClashing p r = ((r.old.0 ≡ p.old.0) × (r.new.0 ≡ p.new.0 → ⊥)) ⊎ ((r.new.0 ≡ p.new.0) × (r.old.0 ≡ p.old.0 → ⊥))
 
--- part `i` of operation `j` is not after part `n` of operation `k`
-abbrev pub IsUpTo : ℕ → ℕ → ℕ → ℕ → Type 0
-IsUpTo k n j i = (j < k) ⊎ ((j ≡ k) × (i ≤ n))
-
--- The types at a place have to be partners, and so have those at another up to its part; but no one-to-one list of pairs has both pairs.
+-- The types at a place have to be partners, and so have those at a place that is visited before it; but no one-to-one list of pairs has both pairs.
 pub record IsClash (old new : Interface) (l : Place) (p : TypePair) (e : Place) (r : TypePair) : Type 0 where
   pub place : IsPlace old new l p
   pub earlier : IsPlace old new e r
-  pub up_to : IsUpTo l.op l.part e.op e.part
+  pub is_earlier : IsVisitedBefore e l
   pub clashing : AreClashing p r
 
 -- the types at a place differ by themselves

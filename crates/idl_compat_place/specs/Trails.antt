@@ -1,7 +1,7 @@
 -- Pairs of types that are placed one after the other, each with how it was come to.
 -- `s` is a trail before a call and `s'` after it, `k` and `n` are the numbers of the operation and of the part that is walked, `base` is how many
 -- pairs there were before it, `p` is a pair and `g` its origin, `before` is how many pairs were there before it.
-use Rattle.std.specs.Prelude.{◌≡◌, ◌⊎◌, ℕ, suc, ◌<◌, ◌≤◌, Bool, true, false, List, ◌++◌, length, Option, Some, None, slice_get}
+use Rattle.std.specs.Prelude.{◌≡◌, ◌⊎◌, ℕ, suc, ◌<◌, ◌≤◌, Bool, true, false, List, [], ◌∷◌, ◌++◌, length, Option, Some, None, slice_get, ⊤}
 use Rattle.nd_types.specs.declared.interface.Interface.{Interface}
 use Rattle.nd_types.specs.declared.types.TypeId.{TypeId}
 use Rattle.nd_types.specs.declared.types.TypeDef.{TypeDef}
@@ -25,11 +25,11 @@ use Rattle.idl_compat_place.specs.declared.trail.Finding.{Finding}
 use Rattle.idl_compat_place.specs.declared.wanted.Wanted.{Wanted}
 use Rattle.idl_compat_place.specs.declared.wanted.Wanted.TheVariants as wanted
 use Rattle.idl_compat_place.specs.Differences.{AreHandles, part_at, part_type, AlikeParts, AlikePartsAt, AreAlikeUpTo, AreAsMany, child, child_of}
-use Rattle.idl_compat_place.specs.Differences.{IsPlace, AreUnlike, AreClashing, IsUpTo, IsDifference, op_of, part_of}
+use Rattle.idl_compat_place.specs.Differences.{IsPlace, AreUnlike, AreClashing, IsPartBefore, IsStepBefore, IsDifference, op_of, part_of}
 
 -- the types of a pair are those of a part that was walked, or of the one that is walked
 pub record IsOfPart (old new : Interface) (k n base before j i : ℕ) (p : TypePair) : Type 0 where
-  pub up_to : IsUpTo k n j i
+  pub earlier : before < base → IsPartBefore j i k n
   pub own : base ≤ before → (j ≡ k) × (i ≡ n)
   pub is_old : part_at old j i ≡ Some p.old
   pub is_new : part_at new j i ≡ Some p.new
@@ -57,11 +57,52 @@ pub record IsTrail (old new : Interface) (k n base : ℕ) (s : Trail) : Type 0 w
   pub each : (at : ℕ) (p : TypePair) (g : Origin) → slice_get s.pairing.pairs at ≡ Some p → slice_get s.origins at ≡ Some g
       → IsOrigin old new k n base s.pairing.pairs at p g
 
--- the place of a pair, up to the part that is walked, or of that part itself
+-- the place of a pair, before the part that is walked, or of that part itself
 pub record IsPlaced (old new : Interface) (k n base before : ℕ) (l : Place) (p : TypePair) : Type 0 where
   pub place : IsPlace old new l p
-  pub up_to : IsUpTo k n l.op l.part
+  pub earlier : before < base → IsPartBefore l.op l.part k n
   pub own : base ≤ before → (l.op ≡ k) × (l.part ≡ n)
+
+-- ## The order of origins
+
+-- `gs` are the origins of all pairs, of which those from number `base` on are of the part that is walked; `g`, `f` and `h` are origins.
+
+-- The types of the part come first, and then those that the types of the pairs name, by the numbers of the pairs.
+abbrev pub IsOriginBefore : Origin → Origin → Type 0
+IsOriginBefore (origin.Part j i) (origin.Part k n) = ⊥
+IsOriginBefore (origin.Part j i) (origin.Step from step) = ⊤
+IsOriginBefore (origin.Step from step) (origin.Part k n) = ⊥
+IsOriginBefore (origin.Step from step) (origin.Step later next) = (from < later) ⊎ ((from ≡ later) × IsStepBefore step next)
+
+-- the origins of the part are in order, and before this one
+pub record AreBefore (base : ℕ) (gs : List Origin) (g : Origin) : Type 0 where
+  pub sorted : (at i : ℕ) (f h : Origin) → base ≤ at → at < i → slice_get gs at ≡ Some f → slice_get gs i ≡ Some h → IsOriginBefore f h
+  pub before : (at : ℕ) (f : Origin) → base ≤ at → slice_get gs at ≡ Some f → IsOriginBefore f g
+
+-- where a walk ends at a clash, the origins are before that of its pair
+abbrev pub EndsAfter : ℕ → List Origin → Origin → Option ℕ → Type 0
+EndsAfter base gs g None = ⊤
+EndsAfter base gs g (Some at) = AreBefore base gs g
+
+abbrev pub IsEndInOrder : ℕ → List Origin → End → Type 0
+IsEndInOrder base gs e = EndsAfter base gs e.origin e.other
+
+abbrev pub AreInOrder : ℕ → List Origin → Option End → Type 0
+AreInOrder base gs None = ⊤
+AreInOrder base gs (Some e) = IsEndInOrder base gs e
+
+-- a walk comes to an origin, or it ends
+abbrev pub ComesTo : ℕ → List Origin → Origin → Option End → Type 0
+ComesTo base gs g None = AreBefore base gs g
+ComesTo base gs g (Some e) = IsEndInOrder base gs e
+
+-- these steps lead from a part to the pair of an origin
+abbrev pub IsPath : List Origin → Origin → ℕ → ℕ → List Step → Type 0
+IsPath gs g op part [] = g ≡ origin.Part op part
+IsPath gs g op part (step ∷ steps) =
+    (from : ℕ) × (f : Origin) × (g ≡ origin.Step from step) × (slice_get gs from ≡ Some f) × IsPath gs f op part steps
+
+-- ## Walks
 
 -- two types that differ, of which one has no partner but itself
 abbrev pub AreOtherBasic : TypePair → Type 0
@@ -146,7 +187,7 @@ pub record IsWalkedTo (old new : Interface) (k n : ℕ) (s : Trail) : Type 0 whe
 abbrev pub IsFoundAt : Interface → Interface → ℕ → ℕ → Trail → Found → Type 0
 IsFoundAt old new k n s found.Counts = (AreAsMany (slice_get old.operations k) (slice_get new.operations k) → ⊥) × (n ≡ 0)
 IsFoundAt old new k n s found.Parts = (m : List TypePair) → AlikePartsAt (IsPair m) old new k n → ⊥
-IsFoundAt old new k n s (found.Ends e) = (base : ℕ) × IsEnd old new k n base s e
+IsFoundAt old new k n s (found.Ends e) = (base : ℕ) × IsEnd old new k n base s e × IsEndInOrder base s.origins e
 
 -- one part more is walked, or something is found at it
 abbrev pub WalksPart : Interface → Interface → ℕ → ℕ → Trail → Option Found → Type 0

@@ -2,7 +2,7 @@
 ghost use Rattle.std.specs.Prelude.{ℕ, IfOk};
 ghost use Rattle.nd_types.specs.declared.interface.Interface.{Interface as TheInterface};
 ghost use Rattle.idl_compat_place.specs.Differences.{IsFirstDifference, IsFound};
-ghost use Rattle.idl_compat_place.specs.Trails.{IsFinding, IsEnd, IsDifferenceAt};
+ghost use Rattle.idl_compat_place.specs.Trails.{IsFinding, IsEnd, IsEndInOrder, IsDifferenceAt};
 
 use crate::Difference;
 use crate::trail::{End, Finding, Found, Trail};
@@ -48,7 +48,8 @@ impl Trail {
 
     // Where a walk ends, with its place.
     fn end_difference(&self, alloc: Global, end: End) -> Result<Difference, Memory>
-        ensures { (old new : TheInterface) (k n base : ℕ) → IsEnd old new k n base self.now end → IfOk result (IsDifferenceAt old new k n) }
+        ensures { (old new : TheInterface) (k n base : ℕ) → IsEnd old new k n base self.now end → IsEndInOrder base self.now.origins end
+            → IfOk result (IsDifferenceAt old new k n) }
     {
         let place = self.place_of(alloc, end.origin)?;
         let Some(number) = end.other else {

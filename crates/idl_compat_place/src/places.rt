@@ -30,7 +30,8 @@ pub enum Difference {
         place: Place,
         types: TypePair,
     },
-    /// The types at a place, one of which has another partner at an earlier place.
+    /// The types at a place, one of which has another partner at an earlier place: in an earlier part, or in the same one after fewer steps, or as
+    /// many that come first.
     Clash {
         place: Place,
         types: TypePair,

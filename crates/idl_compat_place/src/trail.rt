@@ -6,7 +6,8 @@ ghost use Rattle.idl_compat.specs.Comparison.{IsPair};
 ghost use Rattle.idl_compat_place.specs.declared.origins.Origin.{Origin as TheOrigin};
 ghost use Rattle.idl_compat_place.specs.declared.origins.Origin.TheVariants as origins;
 ghost use Rattle.idl_compat_place.specs.Differences.{AreClashing};
-ghost use Rattle.idl_compat_place.specs.Trails.{IsTrail, IsOrigin, AreOtherBasic, IsOther, IsPlaced, Walks, IsWalkedTo};
+ghost use Rattle.idl_compat_place.specs.Trails.{IsTrail, IsOrigin, AreOtherBasic, IsOther, IsPlaced, IsPath, Walks, IsWalkedTo};
+ghost use Rattle.idl_compat_place.specs.Trails.{IsOriginBefore, AreBefore, ComesTo};
 
 use crate::origins::{Origin, Origins};
 use crate::{Place, Steps};
@@ -97,9 +98,11 @@ impl Trail {
 
     // Places a pair. None where it is placed now, or was before; else where the walk ends.
     pub(crate) fn place(&mut self, pair: TypePair, origin: Origin) -> Result<Option<End>, Memory>
-        ensures { (old new : TheInterface) (k n base : ℕ) → IsTrail old new k n base self.old → base ≤ length self.old.pairing.pairs
+        ensures walks { (old new : TheInterface) (k n base : ℕ) → IsTrail old new k n base self.old → base ≤ length self.old.pairing.pairs
             → IsOrigin old new k n base self.old.pairing.pairs (length self.old.pairing.pairs) pair origin
             → IfOk result (Walks old new k n base (λ m. IsPair m pair.old.0 pair.new.0) self.old self.new) }
+        ensures order { (base : ℕ) (next : TheOrigin) → AreBefore base self.old.origins origin → IsOriginBefore origin next
+            → IfOk result (ComesTo base self.new.origins next) }
     {
         match self.pairing.place(pair)? {
             Placing::Already => Ok(None),
@@ -130,7 +133,8 @@ impl Trail {
     pub(crate) fn place_of(&self, alloc: Global, origin: Origin) -> Result<Place, Memory>
         ensures { (old new : TheInterface) (k n base before : ℕ) (pair : Pair) → IsTrail old new k n base self.now
             → before ≤ length self.now.pairing.pairs → IsOrigin old new k n base self.now.pairing.pairs before pair origin
-            → IfOk result (λ place. IsPlaced old new k n base before place pair) }
+            → IfOk result (λ place. IsPlaced old new k n base before place pair
+            × IsPath self.now.origins origin place.op place.part place.steps) }
     {
         let mut steps = Steps::new(alloc);
         let mut origin = origin;

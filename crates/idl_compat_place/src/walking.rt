@@ -1,5 +1,5 @@
 // Two interfaces are walked, part by part, up to the first part that differs.
-ghost use Rattle.std.specs.Prelude.{◌≡◌, ◌≤◌, ◌<◌, ℕ, length, Some, slice_get, IfOk};
+ghost use Rattle.std.specs.Prelude.{◌≡◌, ◌+◌, ◌≤◌, ◌<◌, ℕ, length, Some, None, slice_get, IfOk};
 ghost use Rattle.nd_types.specs.declared.interface.Interface.{Interface as TheInterface};
 ghost use Rattle.nd_types.specs.Table.{type_at};
 ghost use Rattle.idl_compat.specs.declared.pairs.TypePair.{TypePair as Pair};
@@ -7,6 +7,10 @@ ghost use Rattle.idl_compat.specs.Comparison.{AlikeTypes, AllAlike, IsPair};
 ghost use Rattle.idl_compat.specs.Matching.{AreExpanded};
 ghost use Rattle.idl_compat_place.specs.Trails.{IsChildPaired, ArePartsPaired, AreChildrenPaired, IsTrail, IsOrigin, IsEnd, IsWalkedTo, Walks};
 ghost use Rattle.idl_compat_place.specs.Trails.{WalksFrom, WalksPart, WalksParams, WalksOperation, WalksAll};
+ghost use Rattle.idl_compat_place.specs.Trails.{IsOriginBefore, AreBefore, AreInOrder, ComesTo};
+ghost use Rattle.idl_compat_place.specs.declared.origins.Origin.{Origin as TheOrigin};
+ghost use Rattle.idl_compat_place.specs.declared.origins.Origin.TheVariants as origins;
+ghost use Rattle.idl_compat_place.specs.declared.steps.Step.TheVariants as steps;
 ghost use Rattle.idl_compat_place.specs.Differences.{AreUnlike};
 
 use crate::Step;
@@ -28,10 +32,12 @@ impl Trail {
         older: &TypeDef,
         newer: &TypeDef,
     ) -> Result<Option<End>, Memory>
-        ensures { (i j : TheInterface) (k n base : ℕ) (pair : Pair) → IsTrail i j k n base self.old → base ≤ from
+        ensures walks { (i j : TheInterface) (k n base : ℕ) (pair : Pair) → IsTrail i j k n base self.old → base ≤ from
             → slice_get self.old.pairing.pairs from ≡ Some pair
             → type_at i.types pair.old.0 ≡ Some older.now → type_at j.types pair.new.0 ≡ Some newer.now
             → IfOk result (Walks i j k n base (IsChildPaired older.now newer.now step) self.old self.new) }
+        ensures order { (base : ℕ) (next : TheOrigin) → AreBefore base self.old.origins (origins.Step from step)
+            → IsOriginBefore (origins.Step from step) next → IfOk result (ComesTo base self.new.origins next) }
     {
         let Some(to) = child(older, step) else {
             return Ok(None);
@@ -54,10 +60,12 @@ impl Trail {
         older: &TypeDef,
         newer: &TypeDef,
     ) -> Result<Option<End>, Memory>
-        ensures { (i j : TheInterface) (k n base : ℕ) (pair : Pair) → IsTrail i j k n base self.old → base ≤ from
+        ensures walks { (i j : TheInterface) (k n base : ℕ) (pair : Pair) → IsTrail i j k n base self.old → base ≤ from
             → slice_get self.old.pairing.pairs from ≡ Some pair
             → type_at i.types pair.old.0 ≡ Some older.now → type_at j.types pair.new.0 ≡ Some newer.now
             → IfOk result (Walks i j k n base (ArePartsPaired older.now newer.now) self.old self.new) }
+        ensures order { (base : ℕ) → AreBefore base self.old.origins (origins.Step from (steps.Nth 0))
+            → IfOk result (ComesTo base self.new.origins (origins.Step from steps.Default)) }
     {
         for number in 0..part_count(older) {
             if let Some(end) = self.walk_child(from, Step::Nth(number), older, newer)? {
@@ -74,10 +82,12 @@ impl Trail {
         older: &TypeDef,
         newer: &TypeDef,
     ) -> Result<Option<End>, Memory>
-        ensures { (i j : TheInterface) (k n base : ℕ) (pair : Pair) → IsTrail i j k n base self.old → base ≤ from
+        ensures walks { (i j : TheInterface) (k n base : ℕ) (pair : Pair) → IsTrail i j k n base self.old → base ≤ from
             → slice_get self.old.pairing.pairs from ≡ Some pair
             → type_at i.types pair.old.0 ≡ Some older.now → type_at j.types pair.new.0 ≡ Some newer.now
             → IfOk result (Walks i j k n base (AreChildrenPaired older.now newer.now) self.old self.new) }
+        ensures order { (base : ℕ) → AreBefore base self.old.origins (origins.Step from (steps.Nth 0))
+            → IfOk result (ComesTo base self.new.origins (origins.Step (from + 1) (steps.Nth 0))) }
     {
         if let Some(end) = self.walk_parts(from, older, newer)? {
             return Ok(Some(end));
@@ -91,8 +101,9 @@ impl Trail {
 
     // Where a walk ends at the types of the pair of a number.
     fn end_at(&self, number: usize, pair: TypePair) -> End
-        ensures { (old new : TheInterface) (k n base : ℕ) → IsTrail old new k n base self.now → base ≤ number
+        ensures ends { (old new : TheInterface) (k n base : ℕ) → IsTrail old new k n base self.now → base ≤ number
             → slice_get self.now.pairing.pairs number ≡ Some pair → AreUnlike old new pair → IsEnd old new k n base self.now result }
+        ensures alone { result.other ≡ None }
     {
         End {
             pair,
@@ -110,10 +121,12 @@ impl Trail {
         older: &Interface,
         newer: &Interface,
     ) -> Result<Option<End>, Memory>
-        ensures { (k n base : ℕ) → IsTrail older.now newer.now k n base self.old → base ≤ number
+        ensures walks { (k n base : ℕ) → IsTrail older.now newer.now k n base self.old → base ≤ number
             → slice_get self.old.pairing.pairs number ≡ Some pair
             → IfOk result (Walks older.now newer.now k n base
             (λ m. AlikeTypes (IsPair m) (type_at older.now.types pair.old.0) (type_at newer.now.types pair.new.0)) self.old self.new) }
+        ensures order { (base : ℕ) → AreBefore base self.old.origins (origins.Step number (steps.Nth 0))
+            → IfOk result (ComesTo base self.new.origins (origins.Step (number + 1) (steps.Nth 0))) }
     {
         let Some(definition) = older.types.get(pair.old.0 as usize) else {
             return Ok(Some(self.end_at(number, pair)));
@@ -136,9 +149,11 @@ impl Trail {
         older: &Interface,
         newer: &Interface,
     ) -> Result<Option<End>, Memory>
-        ensures { (k n base : ℕ) → IsTrail older.now newer.now k n base self.old → base ≤ from
+        ensures walks { (k n base : ℕ) → IsTrail older.now newer.now k n base self.old → base ≤ from
             → AreExpanded older.now.types newer.now.types self.old.pairing.pairs from
             → IfOk result (Walks older.now newer.now k n base (AllAlike older.now.types newer.now.types) self.old self.new) }
+        ensures order { (base : ℕ) → AreBefore base self.old.origins (origins.Step from (steps.Nth 0))
+            → IfOk result (AreInOrder base self.new.origins) }
     {
         for at in from..older.types.len() {
             let Some(pair) = self.pairing.pairs.get(at) else {
