@@ -20,11 +20,11 @@ use Rattle.ndr_drain.specs.declared.fault.GiveFault.TheVariants as give
 
 -- an end that is given nothing is as before
 pub with_nothing : (e : EndSeen) → with_octets [] e ≡ e
-with_nothing e = ap (λ (t : List ℕ). record e { taken = t }) (append-nil e.taken)
+with_nothing e = ap (λ t. let x : EndSeen = record e { taken = t } in x) (append-nil e.taken)
 
 -- what is given in two pieces is given at once
 pub with_twice : (a b : List ℕ) (e : EndSeen) → with_octets b (with_octets a e) ≡ with_octets (a ++ b) e
-with_twice a b e = ap (λ (t : List ℕ). record e { taken = t }) (append_assoc e.taken a b)
+with_twice a b e = ap (λ t. let x : EndSeen = record e { taken = t } in x) (append_assoc e.taken a b)
 
 -- ## Lists of ends
 
