@@ -145,6 +145,7 @@ class Reader:
         self.octets = octets
         self.at = 0
         self.lines: List[str] = []
+        self.filled_gaps = 0
         self.cells: List[Cell] = []
         self.numbers: Dict[int, Cell] = {}
         self.pending: List[Pending] = []
@@ -157,7 +158,9 @@ class Reader:
             return
         if self.at + size > len(self.octets):
             raise Refused(len(self.octets), "Truncated", path)
-        self.lines.append(f"{self.at} {size} gap")
+        octets = self.octets[self.at:self.at + size]
+        self.filled_gaps += any(octets)
+        self.lines.append(f"{self.at} {size} gap" + (f' x"{octets.hex()}"' if any(octets) else ""))
         self.at += size
 
     def peek(self, size: int, path: str) -> bytes:
@@ -407,4 +410,6 @@ def trace(of: Interface, operation: str, side: str, order: str, octets: bytes,
     except Refused as refused:
         refusal = (refused.place, refused.reason)
         reader.lines.append(f"{refused.place} fault {refused.reason} {refused.path}".rstrip(" "))
+    if reader.filled_gaps:
+        reader.lines.append(f"gaps that are not zero: {reader.filled_gaps}")
     return "".join(line + "\n" for line in reader.lines), refusal

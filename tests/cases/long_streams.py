@@ -153,6 +153,40 @@ def drained(way: Way) -> Late:
 
 
 # ----------------------------------------------------------------------------------------------------------------------
+# Octets that lack their last octet, traced
+
+
+def cut(what: str, file: bytes, make: Callable[[], Tuple[bytes, List[str], str]]) -> Late:
+    """A trace of a long stream that lacks its last octet; `make` gives the stream, the lines of the items before, and the path of the last."""
+    name = f"long streams: {what} are traced"
+
+    def made() -> Case:
+        stream, items, path = make()
+        end = len(stream) - 1
+        return Case(name, ["trace", *LITTLE], {"t.idl": file}, stream[:end], lines(*items, f"{end} fault Truncated {path}"),
+                    notes=lines(f"refused: octets at {end}: Truncated"), status=1)
+
+    return Late(name, made)
+
+
+def cut_elements() -> Tuple[bytes, List[str], str]:
+    stream, shown = explained_numbers()
+    return stream, shown.decode().splitlines()[:-1], "n"
+
+
+def cut_chunks() -> Tuple[bytes, List[str], str]:
+    return chunks(), explained_chunks().decode().splitlines()[:-1], "d"
+
+
+def cut_cells() -> Tuple[bytes, List[str], str]:
+    stream, _ = linked()
+    items = ["0 4 number p 1"]
+    for k in NUMBERS:
+        items += [f"{8 * k - 4} 4 num @{k}.v {k}", f"{8 * k} 4 number @{k}.next {k + 1}"]
+    return stream, items[:-1], f"@{COUNT}.next"
+
+
+# ----------------------------------------------------------------------------------------------------------------------
 # Counts that claim too much
 
 ROOM = 256 << 20  # octets of address space
@@ -194,6 +228,9 @@ CASES = [
     late("a pipe of 100,000 chunks", "decode", FEED, lambda: (chunks(), values("d = [" + ", ".join(map(str, NUMBERS)) + "]"))),
     late("the items of a pipe of 100,000 chunks", "explain", FEED, lambda: (chunks(), explained_chunks())),
     late("100,000 chunks are drained", "drain", FEED, lambda: (chunks(), DRAINED), lambda: {"pipe0.out": lines(*map(str, NUMBERS))}),
+    cut("100,000 elements", idl(BY_NAME["numbers"].typed, ARRAY), cut_elements),
+    cut("100,000 chunks", FEED, cut_chunks),
+    cut("100,000 cells", idl(LIST, "void f([in, unique] node *p);"), cut_cells),
     *(drained(BY_NAME[name]) for name in ("numbers", "enumerated values", "structs of numbers", "structs of structs and arrays", "unions")),
     *(claimed("decode", claim) for claim in CLAIMS),
     *(claimed("explain", claim) for claim in CLAIMS),

@@ -12,6 +12,7 @@ COUNTS = interface("typedef struct { short n; short m; [first_is(m), length_is(n
                    "void put([in] s *p, [in] t *q);")
 SHARED = interface("void put([in, ptr] long *p, [in, ptr] short *q);")
 PIPE = interface("typedef pipe long lp;", "void feed([in] lp d);")
+GAPS = interface("typedef struct { byte b; long n; } g;", "void put([in] g a[2]);")
 LINKS = interface("typedef struct node { long v; [ptr] struct node *next; } node;", "void ring([in, ptr] node *p);")
 SIZED = interface("typedef byte bytes[*]; typedef struct { [size_is(n), unique] bytes *b; short n; } s;", "void put([in] s *p);")
 POINTED = interface("typedef byte bytes[*];", "void put([in] unsigned long n, [in, size_is(n)] bytes *p);",
@@ -35,6 +36,14 @@ def traced(name, text, op, given, why, *shown, side="in", more=(), files=None):
 CASES = [
     Case("trace: octets that are accepted are explained", words("put"), {"t.idl": COUNTED}, octets("01000000 0100 0000 05000000"),
          lines("0 4 max @1 1", "4 2 num @1.n 1", "6 2 gap", "8 4 num @1.a[0] 5")),
+    Case("trace: a gap that is not zero shows its octets", words("put"), {"t.idl": COUNTED}, octets("01000000 0100 00a1 05000000"),
+         lines("0 4 max @1 1", "4 2 num @1.n 1", '6 2 gap x"00a1"', "8 4 num @1.a[0] 5", "gaps that are not zero: 1")),
+    Case("trace: explain does not show them", ["explain", "t.idl", "-", "put", "in", "little"], {"t.idl": COUNTED}, octets("01000000 0100 00a1 05000000"),
+         lines("0 4 max @1 1", "4 2 num @1.n 1", "6 2 gap", "8 4 num @1.a[0] 5")),
+    traced("gaps before a fault", GAPS, "put", "01020300 05000000 02000000 06", "13: Truncated", "0 1 num a[0].b 1", '1 3 gap x"020300"', "4 4 num a[0].n 5",
+           "8 1 num a[1].b 2", "9 3 gap", "13 fault Truncated a[1].n", "gaps that are not zero: 1"),
+    traced("gaps before an octet that follows the values", GAPS, "put", "010000ff 05000000 02000001 06000000 07", "16: Trailing", "0 1 num a[0].b 1",
+           '1 3 gap x"0000ff"', "4 4 num a[0].n 5", "8 1 num a[1].b 2", '9 3 gap x"000001"', "12 4 num a[1].n 6", "16 fault Trailing", "gaps that are not zero: 2"),
     Case("trace: closed input", words("put"), {"t.idl": COUNTED}, CLOSED, notes=lines("read fault"), status=3),
     Case("trace: a bad label", words("put", "label"), {"t.idl": COUNTED}, octets("20000000 01000000 0100 0000 05000000"),
          notes=lines("refused: label: BadOrder"), status=1),
@@ -78,6 +87,7 @@ CASES = [
 
 # Streams that are cut short everywhere, and with each octet changed, for the program and the plain model
 STREAMS = [
+    ("parcels.idl", "send", "in", "02000000 0200 00a1 05000000 06000000"),
     ("parcels.idl", "send", "in", "02000000 0200 0000 05000000 06000000"),
     ("parcels.idl", "measure", "in", "0100 0100 07000000 0200 0200"),
     ("directory.idl", "list", "out", example("list-response.hex").decode()),

@@ -1,5 +1,5 @@
 -- What the octets of a source are printed, explained and traced as, and why they are refused.
-use Rattle.std.specs.Prelude.{◌≡◌, ℕ, true, List, [], ◌∷◌, ◌++◌, length, Option, Some, None, codes, decimal, Result, Ok, Err, ⊤}
+use Rattle.std.specs.Prelude.{◌≡◌, ℕ, zero, suc, true, List, [], ◌∷◌, ◌++◌, length, Option, Some, None, codes, decimal, Result, Ok, Err, ⊤}
 use Rattle.std.specs.Io.KnownBytes.{Consumes, IsAtEnd}
 use Rattle.nd_base.specs.declared.octets.Order.{Order}
 use Rattle.nd_base.specs.declared.TheConstants.{STREAM_LIMIT}
@@ -18,7 +18,7 @@ use Rattle.nd_grammar.specs.decoded.Verdict.{MayFollow, fetched_to}
 use Rattle.nd_grammar.specs.Entry.{end_to_end}
 use Rattle.nd_grammar.specs.Items.{items}
 use Rattle.text_grammar.specs.Written.{IsText}
-use Rattle.ndr_explain.specs.Explained.{explanation}
+use Rattle.ndr_explain.specs.Explained.{explanation, explanation_over, filled_gaps}
 use Rattle.ndr_trace_value.specs.Traces.{IsTrace}
 use Rattle.command_refusals.specs.declared.refusal.Refusal.{Refusal}
 use Rattle.command_refusals.specs.declared.refusal.Refusal.TheVariants.{Memory, ReadFault, BadOctets}
@@ -119,6 +119,34 @@ fault_line place why path = decimal place ++ codes " fault " ++ fault_text why +
 abbrev pub trailing_line : ℕ → List ℕ
 trailing_line place = decimal place ++ codes " fault Trailing\n"
 
+-- the last line of a trace: how many gaps have octets that are not all zero; none if all are zero
+abbrev pub gaps_line : ℕ → List ℕ
+gaps_line zero = []
+gaps_line (suc n) = codes "gaps that are not zero: " ++ (decimal (suc n) ++ codes "\n")
+
+-- The octets are a stream of a graph that conforms, whose cells are numbered in the order of the stream, and these lines explain the items of that
+-- stream; so many of its gaps have octets that are not all zero, which the lines show.
+pub record IsShown (w : Setting) (order : Order) (octets : List ℕ) (gaps : ℕ) (lines : List ℕ) : Type 0 where
+  pub graph : Graph
+  pub conforms : Conforms w graph
+  pub canonical : IsCanon w graph graph
+  pub represents : Represents w order octets graph
+  pub lines_are : lines ≡ explanation_over w graph octets (items order octets (end_to_end 0 represents.entries))
+  pub gaps_are : gaps ≡ filled_gaps octets (items order octets (end_to_end 0 represents.entries))
+
+-- The octets are explained to their end.
+pub record IsWholeTrace (w : Setting) (order : Order) (octets text : List ℕ) : Type 0 where
+  pub gaps : ℕ
+  pub shown : List ℕ
+  pub explanation : IsShown w order octets gaps shown
+  pub text_is : text ≡ shown ++ gaps_line gaps
+
+-- The source was read to its end, and this text traces its octets.
+pub record IsTracedWhole (s : SourceOver) (w : Setting) (order : Order) (text : List ℕ) : Type 0 where
+  pub octets : List ℕ
+  pub whole : IsWhole s octets
+  pub trace : IsWholeTrace w order octets text
+
 -- The first of the octets are refused at a place, and these lines trace them.
 pub record IsRefusedTrace (w : Setting) (order : Order) (octets : List ℕ) (place : ℕ) (why : Reason) (lines : List ℕ) : Type 0 where
   pub fetched : List ℕ
@@ -128,7 +156,7 @@ pub record IsRefusedTrace (w : Setting) (order : Order) (octets : List ℕ) (pla
   pub shown : List ℕ
   pub path : List ℕ
   pub trace : IsTrace w order fetched place why shown path
-  pub lines_are : lines ≡ shown ++ fault_line place (Refused why) path
+  pub lines_are : lines ≡ shown ++ (fault_line place (Refused why) path ++ gaps_line (filled_gaps fetched (items order fetched trace.bad.earlier)))
 
 -- The first of the octets are explained, and an octet follows them.
 pub record IsTrailedTrace (w : Setting) (order : Order) (octets : List ℕ) (place : ℕ) (lines : List ℕ) : Type 0 where
@@ -136,10 +164,11 @@ pub record IsTrailedTrace (w : Setting) (order : Order) (octets : List ℕ) (pla
   pub next : ℕ
   pub rest : List ℕ
   pub split : octets ≡ fetched ++ next ∷ rest
+  pub gaps : ℕ
   pub shown : List ℕ
-  pub explanation : IsExplanation w order fetched shown
+  pub explanation : IsShown w order fetched gaps shown
   pub place_is : place ≡ length fetched
-  pub lines_are : lines ≡ shown ++ trailing_line place
+  pub lines_are : lines ≡ shown ++ (trailing_line place ++ gaps_line gaps)
 
 -- octets are refused at a place, and these lines trace them
 abbrev pub IsRefusedWith : Setting → Order → List ℕ → ℕ → OctetsFault → List ℕ → Type 0
@@ -148,7 +177,7 @@ IsRefusedWith w order octets place Trailing lines = IsTrailedTrace w order octet
 
 -- what octets are traced as: an explanation, or the trace of their refusal
 abbrev pub IsTraced : Setting → Order → List ℕ → Traced → Type 0
-IsTraced w order octets (traced.Whole text) = IsExplanation w order octets text
+IsTraced w order octets (traced.Whole text) = IsWholeTrace w order octets text
 IsTraced w order octets (traced.Refused lines place why) = IsRefusedWith w order octets place why lines
 
 -- ## Why octets are not explained to their end, and what is written beside the refusal

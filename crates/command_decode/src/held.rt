@@ -5,16 +5,18 @@ ghost use Rattle.nd_base.specs.declared.octets.Order.{Order};
 ghost use Rattle.nd_types.specs.declared.types.Operation.{Operation};
 ghost use Rattle.nd_value.specs.Fitting.{setting_beside};
 ghost use Rattle.nd_value.specs.Request.{IsRequestOf};
+ghost use Rattle.ndr_explain.specs.Explained.{filled_gaps};
 ghost use Rattle.command_decode.specs.Fronts.{IsLoggedFront, IsRefusedFront};
-ghost use Rattle.command_decode.specs.Decoded.{IsTraced, fault_line, trailing_line};
+ghost use Rattle.command_decode.specs.Decoded.{IsTraced, fault_line, gaps_line, trailing_line};
 
 use command_refusals::{OctetsFault, fault_words};
+use itoa::Buffer;
 use nd_base::{LentSource, Memory, Octets, Order, Steps, Uncounted};
 use nd_grammar::Reason;
 use nd_graph::{Fit, ItemLog};
 use nd_types::{Interface, Side};
 use ndr_decode::{DecodeFault, Decoded, decode};
-use ndr_explain::explain;
+use ndr_explain::{count_filled_gaps, explain_over};
 use ndr_plan::make;
 use ndr_trace::trace;
 use std::alloc::Global;
@@ -23,9 +25,9 @@ use text_grammar::append_count;
 // Octets in words.
 #[derive(Drop)]
 pub(crate) enum Traced {
-    // They are accepted: a line for each item.
+    // They are accepted: a line for each item, and one that counts the gaps that are not zero.
     Whole(Octets),
-    // They are refused at a place: a line for each item before it, and the line of the fault.
+    // They are refused at a place: a line for each item before it, the line of the fault, and one that counts the gaps that are not zero.
     Refused {
         lines: Octets,
         place: u32,
@@ -86,20 +88,23 @@ fn explained(
         decoded.now.fit.graph items.now.items
         → IfOk result (IsTraced (setting_beside interface.now o decoded.now.fit.side decoded.now.fit.given) order octets.now) }
 {
-    let lines = explain(alloc, interface, &decoded.fit, items)?;
+    let gaps = count_filled_gaps(items, octets);
+    let lines = explain_over(alloc, interface, &decoded.fit, items, octets)?;
     let place = decoded.taken;
     if octets.len() == place as usize {
-        Ok(Traced::Whole(lines))
+        let text = with_gaps(lines, gaps)?;
+        Ok(Traced::Whole(text))
     } else {
-        trailed(lines, place)
+        trailed(lines, place, gaps)
     }
 }
 
 // Lines of values that an octet follows.
-fn trailed(lines: Octets, place: u32) -> Result<Traced, Memory>
-    ensures { IfOk result (λ t. t ≡ Traced.Refused (lines ++ trailing_line place) place OctetsFault.Trailing) }
+fn trailed(lines: Octets, place: u32, gaps: usize) -> Result<Traced, Memory>
+    ensures { IfOk result (λ t. t ≡ Traced.Refused (lines ++ (trailing_line place ++ gaps_line gaps)) place OctetsFault.Trailing) }
 {
-    let lines = with_trailing(lines, place)?;
+    let ended = with_trailing(lines, place)?;
+    let lines = with_gaps(ended, gaps)?;
     Ok(Traced::Refused {
         lines,
         place,
@@ -114,6 +119,21 @@ fn with_trailing(lines: Octets, place: u32) -> Result<Octets, Memory>
     let mut lines = lines;
     append_count(&mut lines, place)?;
     lines.append(b" fault Trailing\n")?;
+    Ok(lines)
+}
+
+// Lines with one that counts the gaps that are not zero at their end, if there are any.
+fn with_gaps(lines: Octets, gaps: usize) -> Result<Octets, Memory>
+    ensures { IfOk result (λ text. text ≡ lines ++ gaps_line gaps) }
+{
+    if gaps == 0 {
+        return Ok(lines);
+    }
+    let mut lines = lines;
+    lines.append(b"gaps that are not zero: ")?;
+    let mut digits = Buffer::new();
+    lines.append(digits.format(gaps).as_bytes())?;
+    lines.append(b"\n")?;
     Ok(lines)
 }
 
@@ -141,7 +161,9 @@ fn refused(
         alloc, interface, op, side, given, order, octets, items, place, reason,
     )?;
     let why = OctetsFault::Refused(reason);
-    let lines = with_fault(alloc, traced.lines, place, why, traced.path.as_slice())?;
+    let gaps = count_filled_gaps(items, octets);
+    let ended = with_fault(alloc, traced.lines, place, why, traced.path.as_slice())?;
+    let lines = with_gaps(ended, gaps)?;
     Ok(Traced::Refused { lines, place, why })
 }
 

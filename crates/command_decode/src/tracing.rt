@@ -5,7 +5,7 @@ ghost use Rattle.nd_base.specs.Over.{source_over};
 ghost use Rattle.nd_types.specs.declared.types.Operation.{Operation};
 ghost use Rattle.nd_value.specs.Fitting.{setting_beside};
 ghost use Rattle.nd_value.specs.Request.{IsRequestOf};
-ghost use Rattle.command_decode.specs.Decoded.{IsExplained, IsStopped, IsMadeOf};
+ghost use Rattle.command_decode.specs.Decoded.{IsMadeOf, IsStopped, IsTracedWhole};
 
 use crate::held::{Traced, trace_held};
 use command_refusals::Refusal;
@@ -21,13 +21,16 @@ pub struct Stopped {
     pub refusal: Refusal,
     /// Where the octets are refused: a line for each item before the fault, and the line `PLACE fault REASON PATH`, where PATH is that of the value
     /// that is refused or lacks octets. At a failed agreement the path of the variable that states the number follows. Of an octet that follows the
-    /// values the line is `PLACE fault Trailing`.
+    /// values the line is `PLACE fault Trailing`. The line that counts the gaps that are not zero is the last.
     pub lines: Option<Octets>,
 }
 
 /// The same as [`explain_octets`](crate::explain_octets), but the source is read first, to its end or to one octet past the limit of a
 /// stream, [`STREAM_LIMIT`](nd_base::STREAM_LIMIT); and where the octets are refused, the items before the fault are explained, and the fault is
 /// shown with the path of what is refused. So a source that fails after a fault answers ReadFault.
+///
+/// A gap whose octets are not all zero shows them, in hexadecimal digits: `6 2 gap x"00a1"`. If there are such gaps, the last line is
+/// `gaps that are not zero: N`.
 ///
 /// `op` must be the number of an operation of the interface. A request that is given must be one of that operation, and then the side is that of its
 /// outputs: the values are judged beside it.
@@ -50,7 +53,7 @@ pub fn trace_octets<S: Source>(
     requires request { IsRequestOf interface.now op side (option_map (λ f. f.now) given) }
     ensures explained { (o : Operation) → slice_get interface.now.operations op ≡ Some o
         → IfOk result
-        (IsExplained (source_over S.seen input.old input.new)
+        (IsTracedWhole (source_over S.seen input.old input.new)
         (setting_beside interface.now o side (option_map (λ f. f.now.graph) given.entry)) order) }
     ensures stopped { (o : Operation) → slice_get interface.now.operations op ≡ Some o
         → IfErr result

@@ -25,7 +25,7 @@ use Rattle.nd_grammar.specs.Stream.{Represents}
 use Rattle.ndr_drain.specs.Drained.{pipe_count}
 use Rattle.command_drain.specs.Printed as draining
 use Rattle.command_drain.specs.Printed.{IsDrainRefusal}
-use Rattle.command_decode.specs.Decoded.{IsExplained, IsTraceCause, IsPrinted, IsInputCause}
+use Rattle.command_decode.specs.Decoded.{IsExplained, IsInputCause, IsPrinted, IsTraceCause, IsTracedWhole}
 use Rattle.command_encode.specs.Encoded.{IsTextCause}
 use Rattle.command_encode.proofs.OneText.{good_cause, fault_cause, misfit_cause}
 use Rattle.dceidl.specs.Causes.{IsMade, IsCause, IsWrittenBeside, IsUnexplained}
@@ -196,10 +196,10 @@ module _ (s : SourceOver) (e : EndsSeen) (w : Setting) (legal : IsLegalSide w) w
         refused_value w legal order octets place why refused p.explanation.graph
         (whole_here rest octets input w order (λ os. Represents w order os p.explanation.graph) p.octets p.whole p.explanation.represents) p.explanation.conforms
     unmade Trace made (rest, other, opened, m) =
-        let p = subst (λ o. IsExplained rest w o made) (one_order s order octets word given rest other opened) m in
+        let p = subst (λ o. IsTracedWhole rest w o made) (one_order s order octets word given rest other opened) m in
         let input = given_after s order octets word given rest other opened in
-        refused_value w legal order octets place why refused p.explanation.graph
-        (whole_here rest octets input w order (λ os. Represents w order os p.explanation.graph) p.octets p.whole p.explanation.represents) p.explanation.conforms
+        refused_value w legal order octets place why refused p.trace.explanation.graph
+        (whole_here rest octets input w order (λ os. Represents w order os p.trace.explanation.graph) p.octets p.whole p.trace.explanation.represents) p.trace.explanation.conforms
     unmade Drain made (rest, other, opened, m) =
         let p = subst (λ o. draining.IsPrinted rest e w o made) (one_order s order octets word given rest other opened) m in
         let input = given_after s order octets word given rest other opened in

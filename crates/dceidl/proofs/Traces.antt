@@ -4,7 +4,7 @@ use Rattle.nd_base.specs.declared.octets.Order.{Order}
 use Rattle.nd_base.specs.Over.{FilesOver, IsUntouched, SourceOver}
 use Rattle.nd_value.specs.Setting.{Setting}
 use Rattle.ndr_pipe.specs.Ends.{AreAsBefore, EndsSeen}
-use Rattle.command_decode.specs.Decoded.{IsExplained, AreLines, IsBeside, IsOther, IsStopped}
+use Rattle.command_decode.specs.Decoded.{AreLines, IsBeside, IsOther, IsStopped, IsTracedWhole}
 use Rattle.command_line.specs.declared.command.OrderWord.{OrderWord}
 use Rattle.command_line.specs.declared.command.OrderWord.TheVariants.{Fixed, Label}
 use Rattle.command_line.specs.declared.command.Reading.TheVariants.{Trace}
@@ -34,7 +34,7 @@ module _ (s rest : SourceOver) (word : OrderWord) (order : Order) (w : Setting) 
   opened_lines r (Some text) h = (rest, order, opened, h)
   opened_lines r None h = h
 
-  pub opened_made : (answer : Result (List ℕ) Stopped) → IfOk answer (IsExplained rest w order)
+  pub opened_made : (answer : Result (List ℕ) Stopped) → IfOk answer (IsTracedWhole rest w order)
       → IfOk answer (λ made. (e : EndsSeen) → IsMadeOf s e (Read Trace word) w made)
   opened_made (Ok made) h = λ e. (rest, order, opened, h)
   opened_made (Err r) h = tt

@@ -30,7 +30,7 @@ use Rattle.command_line.specs.Words.{order_in, Subject}
 use Rattle.command_refusals.specs.declared.refusal.Refusal.{Refusal}
 use Rattle.command_refusals.specs.declared.refusal.Refusal.TheVariants.{TooLong, Memory, ReadFault}
 use Rattle.command_streams.specs.Input.{IsLabelCause, AreRead}
-use Rattle.command_decode.specs.Decoded.{IsExplained, IsTraceCause, IsPrinted, IsInputCause}
+use Rattle.command_decode.specs.Decoded.{IsExplained, IsInputCause, IsPrinted, IsTraceCause, IsTracedWhole}
 use Rattle.command_encode.specs.Encoded.{IsWritten, IsLong, IsTextCause, beside, HoldsRequest, HoldsNoRequest}
 use Rattle.command_call.specs.Called.{IsCalled, IsCallCause}
 use Rattle.command_drain.specs.Printed as draining
@@ -124,7 +124,7 @@ IsUnopened Label s r = IsLabelCause s r
 abbrev pub IsMadeReading : Reading → SourceOver → EndsSeen → Setting → Order → List ℕ → Type 0
 IsMadeReading Decode s e w order made = IsPrinted s w order made
 IsMadeReading Explain s e w order made = IsExplained s w order made
-IsMadeReading Trace s e w order made = IsExplained s w order made
+IsMadeReading Trace s e w order made = IsTracedWhole s w order made
 IsMadeReading Drain s e w order made = draining.IsPrinted s e w order made
 
 -- why these octets are refused

@@ -6,7 +6,7 @@ ghost use Rattle.nd_types.specs.declared.types.Operation.{Operation};
 ghost use Rattle.nd_value.specs.Fitting.{setting_beside};
 ghost use Rattle.nd_value.specs.Request.{IsRequestOf};
 ghost use Rattle.ndr_pipe.specs.Ends.{AreOpen, ends_over, ends_seen};
-ghost use Rattle.command_decode.specs.Decoded.{IsExplained, IsTraceCause};
+ghost use Rattle.command_decode.specs.Decoded.{IsTraceCause, IsTracedWhole};
 ghost use Rattle.command_line.specs.declared.command.OrderWord.TheVariants.{Fixed, Label};
 ghost use Rattle.command_line.specs.declared.command.Task.TheVariants.{Read};
 ghost use Rattle.dceidl.specs.Asked.{AsksEnds, drains};
@@ -151,7 +151,7 @@ fn traced_alone<S: Source>(
     requires request { IsRequestOf interface.now op side (option_map (λ f. f.now) given) }
     ensures explained { (o : Operation) → slice_get interface.now.operations op ≡ Some o
         → IfOk result
-        (IsExplained (source_over S.seen input.old input.new)
+        (IsTracedWhole (source_over S.seen input.old input.new)
         (setting_beside interface.now o side (option_map (λ f. f.now.graph) given.entry)) order) }
     ensures refused { (o : Operation) → slice_get interface.now.operations op ≡ Some o
         → IfErr result

@@ -1,3 +1,4 @@
+pub mod FilledGaps
 pub mod HomeNodes
 pub mod LevelPaths
 pub mod LevelPlaces

@@ -1,9 +1,10 @@
 -- What explains a stream: a line for each of its items, which says where the item is, what it is, which node of which value it belongs to,
 -- and what it holds.
--- `w` is a setting, `g` a graph, `h` a home, `n` a node's number, `l` a node's label, `x` an item, `z` the number that an item holds.
-use Rattle.std.specs.Prelude.{ℕ, ℤ, ◌==◌, true, false, List, [], ◌∷◌, ◌++◌, flat_map, Option, None, Some, codes, decimal}
+-- `w` is a setting, `g` a graph, `h` a home, `n` a node's number, `l` a node's label, `x` an item, `z` the number that an item holds, `octets` are those
+-- of the stream, `os` some of them.
+use Rattle.std.specs.Prelude.{ℕ, ℤ, ◌==◌, Bool, true, false, not, nat_eq, List, [], ◌∷◌, ◌++◌, drop, filter, flat_map, length, take, Option, None, Some, codes, decimal}
 use Rattle.std.specs.Fmt.{signed_decimal}
-use Rattle.std.specs.List.{slice_get}
+use Rattle.std.specs.List.{list_all, slice_get}
 use Rattle.nd_value.specs.declared.value.Graph.{Graph}
 use Rattle.nd_value.specs.declared.item.Home.{Home}
 use Rattle.nd_value.specs.declared.item.Item.{Item}
@@ -13,7 +14,7 @@ use Rattle.nd_value.specs.Setting.{Setting}
 use Rattle.nd_value.specs.Tree as tree
 use Rattle.nd_value.specs.Tree.{Flat, Label, none, more, flat}
 use Rattle.text_grammar.specs.Paths.{home_name, home_types, home_value, node_paths}
-use Rattle.text_grammar.specs.Written.{quoted_text}
+use Rattle.text_grammar.specs.Written.{hex_text, quoted_text}
 use Rattle.text_printer.specs.Texts.{context_text}
 
 -- ## Nodes
@@ -85,3 +86,36 @@ item_line w g x = item_head x ++ item_rest w g x.kind x
 -- a line for each item
 abbrev pub explanation : Setting → Graph → List Item → List ℕ
 explanation w g xs = flat_map (item_line w g) xs
+
+-- ## Gaps
+
+-- The octets of a gap may have any values (C706, 14.2.2). These lines are the same, but a gap whose octets are not all zero shows them, in hexadecimal
+-- digits.
+
+abbrev pub its_octets : List ℕ → Item → List ℕ
+its_octets octets x = take x.len (drop x.at octets)
+
+abbrev pub are_zero : List ℕ → Bool
+are_zero os = list_all (nat_eq 0) os
+
+abbrev pub gap_shown : List ℕ → List ℕ
+gap_shown os = elim (are_zero os) [ true ↦ [] | false ↦ codes " x\"" ++ (hex_text os ++ codes "\"") ]
+
+abbrev pub rest_over : Setting → Graph → List ℕ → ItemKind → Item → List ℕ
+rest_over w g octets kind.Gap x = gap_shown (its_octets octets x) ++ codes "\n"
+rest_over w g octets k x = item_rest w g k x
+
+abbrev pub line_over : Setting → Graph → List ℕ → Item → List ℕ
+line_over w g octets x = item_head x ++ rest_over w g octets x.kind x
+
+-- a line for each item of a stream of these octets
+abbrev pub explanation_over : Setting → Graph → List ℕ → List Item → List ℕ
+explanation_over w g octets xs = flat_map (line_over w g octets) xs
+
+abbrev pub is_filled : List ℕ → ItemKind → Item → Bool
+is_filled octets kind.Gap x = not (are_zero (its_octets octets x))
+is_filled octets _ x = false
+
+-- how many gaps have octets that are not all zero
+abbrev pub filled_gaps : List ℕ → List Item → ℕ
+filled_gaps octets xs = length (filter (λ x. is_filled octets x.kind x) xs)

@@ -8,13 +8,13 @@ ghost use Rattle.nd_value.specs.Setting.{Setting};
 ghost use Rattle.nd_value.specs.Tree.{Label};
 ghost use Rattle.nd_flat.specs.FlatForm.{flat_seen};
 ghost use Rattle.nd_value.specs.declared.value.Graph.{Graph};
-ghost use Rattle.nd_value.specs.declared.item.ItemKind.TheVariants as kinds;
 ghost use Rattle.text_grammar.specs.Paths.{home_name as home_words};
-ghost use Rattle.ndr_explain.specs.Explained.{explanation, item_line, item_head, node_shown, value_shown, string_shown, context_shown, kind_word};
+ghost use Rattle.ndr_explain.specs.Explained.{explanation, explanation_over, line_over, item_head, node_shown, value_shown, string_shown, context_shown, kind_word};
 ghost use Rattle.ndr_explain.specs.Explained.{path_in, home_paths};
-ghost use Rattle.ndr_explain.specs.Cursors.{IsSettingOf, IsIn, IsLast, IsFound, IsNoGap, found_label};
+ghost use Rattle.ndr_explain.specs.Cursors.{IsSettingOf, IsIn, IsLast, IsFound, found_label};
 
 use crate::cursor::append_path;
+use crate::gaps::{append_gap, is_gap};
 use crate::located::{Located, locate};
 use crate::names::{append_home, home_name};
 use nd_base::{Memory, Octets};
@@ -48,13 +48,29 @@ pub fn explain(
     ensures { IfOk result (λ text. (o : Operation) → slice_get interface.now.operations fit.now.op ≡ Some o
         → text ≡ explanation (setting_beside interface.now o fit.now.side fit.now.given) fit.now.graph items.now.items) }
 {
+    explain_over(alloc, interface, fit, items, &[])
+}
+
+/// The same as [`explain`], but a gap whose octets are not all zero shows them in hexadecimal digits: `6 2 gap x"00a1"`. Octets that are not among
+/// those given are not shown.
+pub fn explain_over(
+    alloc: Global,
+    interface: &Interface,
+    fit: &Fit,
+    items: &ItemLog,
+    octets: &[u8],
+) -> Result<Octets, Memory>
+    requires tied { fit.now.interface ≡ interface.now }
+    ensures { IfOk result (λ text. (o : Operation) → slice_get interface.now.operations fit.now.op ≡ Some o
+        → text ≡ explanation_over (setting_beside interface.now o fit.now.side fit.now.given) fit.now.graph octets.now items.now.items) }
+{
     let mut text = Octets::new(alloc);
     let mut last = None;
     for at in 0..items.len() {
         let Some(item) = items.get(at) else {
             unreachable!()
         };
-        last = append_item(alloc, &mut text, interface, fit, last, item)?;
+        last = append_item(alloc, &mut text, interface, fit, last, item, octets)?;
     }
     Ok(text)
 }
@@ -67,13 +83,15 @@ fn append_item<'a>(
     fit: &'a Fit,
     last: Option<Located<'a>>,
     item: &Item,
+    octets: &[u8],
 ) -> Result<Option<Located<'a>>, Memory>
     requires tied { fit.now.interface ≡ interface.now }
     ensures { (w : Setting) → IsSettingOf interface.now fit.now w → IsLast w fit.now.graph last.entry
-        → IfOk result (λ found. (text.new ≡ text.old ++ item_line w fit.now.graph item.now) × IsLast w fit.now.graph found) }
+        → IfOk result (λ found. (text.new ≡ text.old ++ line_over w fit.now.graph octets.now item.now) × IsLast w fit.now.graph found) }
 {
     append_head(text, item)?;
     if is_gap(item.kind) {
+        append_gap(text, octets, item)?;
         text.append(b"\n")?;
         return Ok(last);
     }
@@ -110,17 +128,6 @@ fn kind_name(kind: ItemKind) -> &'static [u8]
         ItemKind::Text => b"text",
         ItemKind::Context => b"context",
         ItemKind::Chunk => b"chunk",
-    }
-}
-
-// Whether an item is a gap.
-fn is_gap(kind: ItemKind) -> bool
-    ensures gap { result ≡ true → kind ≡ kinds.Gap }
-    ensures other { result ≡ false → IsNoGap kind }
-{
-    match kind {
-        ItemKind::Gap => true,
-        _ => false,
     }
 }
 

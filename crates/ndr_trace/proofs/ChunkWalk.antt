@@ -1,28 +1,29 @@
 -- A walk from one chunk of a pipe to the next.
 -- `k` are the octets with the partial graph in which they are refused, `h` is the pipe's home, `name` its name, `t` the type of its elements, `ks` are the
 -- elements of a chunk, `us` those after it, `v` is how many a chunk has.
-use Rattle.std.proofs.Common.{◌≡◌, ◌⊎◌, inl, inr, ◌∙◌, ℕ, ◌+◌, ◌-◌, ◌<◌, ◌≤◌, zero, suc, List, [], ◌∷◌, ◌++◌, length, replicate, reverse, Some, refl, sym, ap, ap₂, subst, append_assoc, arith}
-use Rattle.std.proofs.Common.{length-append}
+use Rattle.std.proofs.Common.{◌≡◌, ◌⊎◌, inl, inr, ◌∙◌, ℕ, ◌+◌, ◌-◌, ◌<◌, ◌≤◌, zero, suc, List, [], ◌∷◌, ◌++◌, length, replicate, reverse, refl, sym, ap, ap₂, subst, append_assoc, arith}
+use Rattle.std.proofs.Common.{length-append, mul-comm, ◌*◌}
 use Rattle.std.specs.Prelude.{sum}
-use Rattle.std.specs.List.{AllByRecursion, slice_get}
+use Rattle.std.specs.List.{slice_get}
 use Rattle.std.proofs.lemmas.List.{length-replicate}
-use Rattle.nd_types.specs.Table.{Table, type_at}
+use Rattle.nd_types.specs.Table.{Table}
 use Rattle.nd_value.specs.declared.item.Home.{Home}
 use Rattle.nd_value.specs.Deferral.{Placed_cells}
-use Rattle.nd_value.specs.Nodes.{child_types}
 use Rattle.nd_value.specs.Tree.{Flat, Trees, count, drop_trees, flat, joined, more, node, node_count, none, take_trees}
 use Rattle.nd_flat.proofs.Forests.{flat-joined, joined-take-drop}
-use Rattle.nd_grammar.specs.Entry.{Align, Chunk, Entry, Kind, entries, in_place}
-use Rattle.nd_grammar.specs.Stream.{Cuts, chunk_entries, chunks}
+use Rattle.nd_grammar.specs.Entry.{Align, Chunk, Entry, in_place}
+use Rattle.nd_grammar.specs.Stream.{Cuts, chunks}
 use Rattle.nd_grammar.proofs.next.NextPipes.{sum_first}
-use Rattle.text_grammar.specs.Paths.{element_path, node_paths}
+use Rattle.text_grammar.specs.Paths.{element_path}
 use Rattle.text_printer.specs.Walks.{Begins}
 use Rattle.ndr_explain.specs.declared.levels.Level.{Level}
 use Rattle.ndr_explain.specs.declared.levels.Level.TheVariants as level
 use Rattle.ndr_explain.specs.Cursors.{index_paths, level_place, name_text, no_places, path_to}
 use Rattle.ndr_explain.specs.Explained.{home_flats, home_paths, path_in}
-use Rattle.ndr_trace_value.specs.Untested.{plain, untested}
+use Rattle.ndr_trace_value.specs.Untested.{untested}
 use Rattle.ndr_trace_value.proofs.Untested.{untested_append, untested_values}
+use Rattle.ndr_trace_value.specs.Left.{total}
+use Rattle.ndr_trace_value.proofs.Left.{times_less, total_replicate}
 use Rattle.ndr_trace_value.specs.declared.nodes.Walker.{Walker}
 use Rattle.ndr_trace_value.specs.declared.progress.Progress.{Progress}
 use Rattle.nd_types.specs.declared.types.TypeId.{TypeId}
@@ -272,3 +273,26 @@ at_home k h name own of s home named top below from = record {
   place = ap level_place top ∙ sym (home_plain k.setting k.graph s.home);
   from = from;
 }
+
+-- ## The elements of a chunk that has some
+
+pub at_first : (t size : ℕ) → (size ≡ 0 → ⊥) → 0 < length (replicate (size - 0) t)
+at_first t zero some = absurd (some refl)
+at_first t (suc n) some = let a = length-replicate (suc n - 0) t in omega (arith, a)
+
+pub elements_least : (f : ℕ → ℕ) (t size : ℕ) → total f (replicate (size - 0) t) ≡ size * f t
+elements_least f t size = ap (λ n. total f (replicate n t)) (let e : size - 0 ≡ size = omega arith in e) ∙ total_replicate f size t
+
+-- after a chunk that has elements the walk is within the log
+pub within_log : (k : Known) (h : Home) (name : List ℕ) (t before : ℕ) (rest : List Entry) (names : Placed_cells) (w : Walker) (size : ℕ)
+    → AfterChunk k h name t before rest names w size → w.progress.next ≤ length k.log
+within_log k h name t before rest names w zero a = a.0.within
+within_log k h name t before rest names w (suc n) a = a.tracing.within
+
+-- each element has an item, so as many items were taken as there are elements
+pub elements_taken : (size least old now : ℕ) → 1 ≤ least → size * least + old ≤ now → size + old ≤ now
+elements_taken size least old now some h =
+    let a = times_less 1 least size some in
+    let b : 1 * size ≡ size = omega arith in
+    let c : least * size ≡ size * least = mul-comm least size in
+    omega (arith, a, b, c, h)

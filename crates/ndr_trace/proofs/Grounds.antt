@@ -1,6 +1,6 @@
 -- What a walk is given, where octets are refused.
 -- `w` is a setting, `bad` are octets that are refused, `u` is what the walk is given, `k` a kind, `x` an entry at its place.
-use Rattle.std.proofs.Common.{◌≡◌, inl, inr, ◌∙◌, ℕ, ◌+◌, ◌≤◌, ◌<◌, ℤ, Bool, true, false, List, [], ◌∷◌, ◌++◌, length, Option, Some, None, refl, sym, ap, subst, arith}
+use Rattle.std.proofs.Common.{◌≡◌, ◌∙◌, zero, suc, ℕ, ◌+◌, ◌≤◌, ◌<◌, drop, take, length-append, ℤ, Bool, true, false, List, [], ◌∷◌, ◌++◌, length, Option, Some, None, refl, sym, ap, subst, arith}
 use Rattle.std.specs.Prelude.{IfSome, IsSome, option_map}
 use Rattle.std.specs.List.{AllByRecursion, slice_get}
 use Rattle.std.proofs.lemmas.Option.{same_Some}
@@ -14,15 +14,17 @@ use Rattle.nd_value.proofs.Apart.{all_left}
 use Rattle.nd_grammar.specs.declared.reason.Reason.{Reason}
 use Rattle.nd_grammar.specs.declared.reason.Reason.TheVariants as reason
 use Rattle.nd_grammar.specs.Refusal.{Bad}
-use Rattle.nd_grammar.specs.Entry.{Actual, Align, Chunk, Context, Entry, EntryAt, Kind, Max, Num, Number, Offset, Tag, Test, Text, Unread, end_to_end, size_at}
-use Rattle.nd_grammar.specs.Items.{items}
-use Rattle.nd_grammar.specs.Stream.{IsRendered}
+use Rattle.nd_grammar.specs.Entry.{Actual, Align, Chunk, Context, Entry, EntryAt, Kind, Max, Num, Number, Offset, Tag, Test, Text, Unread, end_to_end, gap, size_at}
+use Rattle.nd_grammar.specs.Items.{item_at, item_of, items}
+use Rattle.nd_grammar.specs.Stream.{IsRendered, piece}
+use Rattle.nd_grammar.proofs.ItemSizes.{width_low}
 use Rattle.ndr_trace_value.specs.Untested.{is_test}
 use Rattle.ndr_trace_value.specs.declared.progress.Ground.{Ground}
 use Rattle.ndr_trace_value.specs.declared.search.Sought.{Sought}
 use Rattle.ndr_trace_value.specs.Tracing.{IsAt, IsGround, kind_in}
 use Rattle.ndr_trace_value.specs.Attributes.{IsItemOf}
 use Rattle.ndr_trace_value.proofs.Ending.{known_of}
+use Rattle.ndr_trace.proofs.Limits.{here_within}
 use Rattle.ndr_trace.proofs.Faults.{Logged, agreement_fault, is_disagreement, logged_there, one_item, plain_fault, tested_entry}
 
 -- an agreement, or another kind
@@ -57,6 +59,50 @@ begins_within order octets nums at (m ∷ ms) (y ∷ ys) here later e r l =
     let h : x ≡ y = cc in
     let t : end_to_end (at + size_at at m.kind) ms ≡ ys ++ here ∷ later = cc in
     begins_within order octets nums (at + size_at at m.kind) ms ys here later t r.1 (subst (λ (u : EntryAt). u.at + size_at u.at u.entry.kind ≤ length octets) (sym h) r.0.0)
+
+-- ## How many items there are
+
+taken_length : (n : ℕ) (xs : List ℕ) → length (take n xs) ≤ n
+taken_length zero xs = omega arith
+taken_length (suc n) [] = omega arith
+taken_length (suc n) (x ∷ xs) = let h = taken_length n xs in omega (arith, h)
+
+-- an item has an octet
+item_size : (order : Order) (octets : List ℕ) (x : EntryAt) (k : Kind) → length (item_at x (item_of order k (piece octets x.at k))) ≤ size_at x.at k
+item_size order octets x (Align n) = by (take (gap x.at n) (drop x.at octets)) (taken_length (gap x.at n) (drop x.at octets))
+  where
+    by : (os : List ℕ) → length os ≤ gap x.at n → length (item_at x (item_of order (Align n) os)) ≤ gap x.at n
+    by [] l = omega arith
+    by (b ∷ bs) l = omega (arith, l)
+item_size order octets x (Max v) = omega arith
+item_size order octets x (Offset t v) = omega arith
+item_size order octets x (Actual t o l v) = omega arith
+item_size order octets x (Chunk v) = omega arith
+item_size order octets x (Number class to cell) = omega arith
+item_size order octets x (Num p values z) = let h = width_low p in omega (arith, h)
+item_size order octets x (Tag p values arms default z) = let h = width_low p in omega (arith, h)
+item_size order octets x (Text os) = omega arith
+item_size order octets x (Context a id) = omega arith
+item_size order octets x (Test a wanted found) = omega arith
+item_size order octets x Unread = omega arith
+
+-- so there are no more items before an entry than octets
+items_before : (order : Order) (octets : List ℕ) (at : ℕ) (ms : List Entry) (earlier : List EntryAt) (here : EntryAt) (later : List EntryAt)
+    → end_to_end at ms ≡ earlier ++ here ∷ later → at + length (items order octets earlier) ≤ here.at
+items_before order octets at [] [] here later e = cc
+items_before order octets at [] (y ∷ ys) here later e = cc
+items_before order octets at (m ∷ ms) [] here later e =
+    let h : at ≡ here.at = ap (λ (x : EntryAt). x.at) (let z : record { at = at; entry = m } ≡ here = cc in z) in
+    omega (arith, h)
+items_before order octets at (m ∷ ms) (y ∷ ys) here later e =
+    let x : EntryAt = record { at = at; entry = m } in
+    let is : x ≡ y = cc in
+    let rest : end_to_end (at + size_at at m.kind) ms ≡ ys ++ here ∷ later = cc in
+    let own : length (item_at y (item_of order y.entry.kind (piece octets y.at y.entry.kind))) ≤ size_at at m.kind =
+    subst (λ (z : EntryAt). length (item_at z (item_of order z.entry.kind (piece octets z.at z.entry.kind))) ≤ size_at at m.kind) is (item_size order octets x m.kind) in
+    let others = items_before order octets (at + size_at at m.kind) ms ys here later rest in
+    let all = length-append (item_at y (item_of order y.entry.kind (piece octets y.at y.entry.kind))) (items order octets ys) in
+    omega (arith, own, others, all)
 
 module _ (w : Setting) (order : Order) (fetched more : List ℕ) (place : ℕ) (why : Reason) (bad : Bad w order fetched place why) (u : Ground) where
   -- an agreement is sought where one fails, and only there
@@ -138,5 +184,10 @@ module _ (w : Setting) (order : Order) (fetched more : List ℕ) (place : ℕ) (
         no_gap_sought (only_test told (is_some u.sought j mine))
         (subst (λ xs. IfSome u.sought (λ s. IsAt xs s.item place)) items_are at) j mine;
     are_octets = all_left (λ b. b < 256) fetched more (subst AreOctets octets small);
+    few =
+        let before = items_before order fetched 0 bad.entries bad.earlier bad.here bad.later bad.split in
+        let within = here_within w order fetched place why bad in
+        let same : length u.items.now.items ≡ length (items order fetched bad.earlier) = ap (λ xs. length xs) items_are in
+        omega (arith, before, within, same);
     is_numbering = bad.is_numbering;
   }

@@ -30,3 +30,4 @@ pub mod RootAttributes
 pub mod SolePointers
 pub mod PointerMembers
 pub mod ReferentTests
+pub mod Limits

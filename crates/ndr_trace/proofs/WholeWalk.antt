@@ -3,7 +3,7 @@
 use Rattle.std.proofs.Common.{◌≡◌, ◌∙◌, drop, take, sym, ap, subst, arith}
 use Rattle.std.specs.Prelude.{Err, Result}
 use Rattle.nd_grammar.specs.Entry.{end_to_end}
-use Rattle.ndr_explain.specs.Explained.{explanation}
+use Rattle.ndr_explain.specs.Explained.{explanation_over}
 use Rattle.ndr_trace_value.specs.Due.{Stops}
 use Rattle.ndr_trace_value.specs.Untested.{untested}
 use Rattle.ndr_trace_value.specs.declared.nodes.Walker.{Walker}
@@ -24,7 +24,7 @@ begins k u s g v ground b =
     tracing : IsTracing k u.progress (untested g.entries)
     tracing = record {
       within = (let z = b.next in omega (arith, z));
-      lines = b.lines ∙ ap (λ n. explanation k.setting k.graph (take n k.log)) (sym b.next);
+      lines = b.lines ∙ ap (λ n. explanation_over k.setting k.graph k.fetched (take n k.log)) (sym b.next);
       path = b.path ∙ sym (not_held k (sought_path k) u.progress.next b.next);
       variable = b.variable ∙ sym (not_held k (sought_variable k) u.progress.next b.next);
       from = λ j i mine there low. absurd (let z = b.next in omega (arith, z, low));

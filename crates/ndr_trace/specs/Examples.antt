@@ -22,7 +22,7 @@ use Rattle.nd_grammar.specs.ExampleParts.{attribute, cell, four, id, null, num, 
 use Rattle.nd_grammar.specs.Items.{items}
 use Rattle.nd_grammar.specs.Refusal.{refusal}
 use Rattle.nd_grammar.specs.Stream.{pipe_entries}
-use Rattle.ndr_explain.specs.Explained.{explanation}
+use Rattle.ndr_explain.specs.Explained.{explanation_over}
 use Rattle.ndr_trace_value.specs.Traces.{entry_path}
 
 abbrev pub called : List ℕ → ℕ → List AttrVar → Field
@@ -46,7 +46,7 @@ path_by w g (Some x) = entry_path w g x.entry
 
 -- the lines of a trace, and then its path
 abbrev pub traced : Setting → Graph → List ℕ → List EntryAt → ℕ → List ℕ
-traced w g octets es k = explanation w g (items Little octets (take k es)) ++ path_by w g (slice_get es k)
+traced w g octets es k = explanation_over w g octets (items Little octets (take k es)) ++ path_by w g (slice_get es k)
 
 -- typedef struct { short n; [size_is(n)] long a[*]; } s; void put([in] s *p);
 abbrev pub counted : Setting

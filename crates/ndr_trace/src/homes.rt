@@ -10,7 +10,7 @@ ghost use Rattle.nd_value.specs.Tree.{more, none};
 ghost use Rattle.nd_value.specs.Deferral.{Due, Placed_cells, due_root};
 ghost use Rattle.nd_grammar.specs.Entry.{Entry};
 ghost use Rattle.text_grammar.specs.Paths.{home_value};
-ghost use Rattle.ndr_trace_value.specs.Walking.{values_due};
+ghost use Rattle.ndr_trace_value.specs.Walking.{IsPaid, values_due};
 ghost use Rattle.ndr_trace_value.specs.declared.progress.Halt.TheVariants as halts;
 ghost use Rattle.ndr_trace.specs.Homes.{HasHome, HasPassed, IsAwaiting, IsFront, IsNext, IsRoot, IsPart, direct_of, home_due};
 ghost use Rattle.ndr_trace_value.specs.Naming.{IsNaming, names_in};
@@ -170,6 +170,7 @@ fn walk_home<'a>(
         → (rest : List Entry) (names : Placed_cells) → IsTracing k walker.old.progress (home_due k home of.0 ++ rest)
         → IsNaming k walker.old.cells (names_in (home_due k home of.0) ++ names)
         → IsErrOf result halts.Here → IsEnded k walker.new.progress }
+    ensures paid { IfOk result (λ _. IsPaid walker.old walker.new) }
 {
     let before = walker.cells.pending.len();
     let max = front(ground, walker, home, name, of, from)?;
@@ -195,6 +196,7 @@ fn front<'a>(
     ensures ends { (k : Known) → IsGround k ground.now → HasHome k home name.entry of.0 → IsFrom k home from.now → (rest : List Entry)
         → IsTracing k walker.old.progress (home_due k home of.0 ++ rest) → IsErrOf result halts.Here → IsEnded k walker.new.progress }
     ensures cells { walker.new.cells ≡ walker.old.cells }
+    ensures later { IfOk result (λ _. walker.old.progress.next ≤ walker.new.progress.next) }
 {
     if !ground.interface.hoists(of) {
         return Ok(0);
@@ -231,14 +233,10 @@ fn walk_referents<'a>(ground: &Ground<'a>, walker: &mut Walker<'a>) -> Result<()
     ensures ends { (k : Known) → IsGround k ground.now → IsPart k → (due : List Due) (rest : List Entry) (names : Placed_cells)
         → IsAwaiting k walker.old due rest names → IsErrOf result halts.Here → IsEnded k walker.new.progress }
 {
-    // No log within the limit of a stream has so many pointers.
-    for _turn in 0..u64::MAX {
-        let Some(next) = walker.cells.pending.pop() else {
-            return Ok(());
-        };
+    while let Some(next) = walker.cells.pending.pop() {
         walk_referent(ground, walker, next)?;
     }
-    Err(Halt::Memory)
+    Ok(())
 }
 
 // Walks over the referent of a pointer, unless it was come to before.
@@ -251,6 +249,7 @@ fn walk_referent<'a>(
         → IsNext k walker.old next due rest names → IfOk result (λ _. IsAwaiting k walker.new due rest names) }
     ensures ends { (k : Known) → IsGround k ground.now → IsPart k → (due : List Due) (rest : List Entry) (names : Placed_cells)
         → IsNext k walker.old next due rest names → IsErrOf result halts.Here → IsEnded k walker.new.progress }
+    ensures paid { IfOk result (λ _. IsPaid walker.old walker.new) }
 {
     let first = come_to(&mut walker.cells, next.cell)?;
     if !first {

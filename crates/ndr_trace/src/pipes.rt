@@ -1,5 +1,5 @@
 // Pipes, chunk by chunk.
-ghost use Rattle.std.specs.Prelude.{◌≡◌, ◌++◌, ℕ, List, option_map, IfOk, IsErrOf};
+ghost use Rattle.std.specs.Prelude.{◌≡◌, ◌≤◌, ◌+◌, ◌*◌, ◌++◌, ℕ, List, option_map, IfOk, IsErrOf};
 ghost use Rattle.nd_types.specs.Table.{type_at};
 ghost use Rattle.nd_value.specs.declared.item.Home.TheVariants as homes;
 ghost use Rattle.nd_value.specs.Deferral.{Placed_cells};
@@ -12,6 +12,7 @@ ghost use Rattle.ndr_trace_value.specs.Untested.{untested};
 ghost use Rattle.ndr_trace_value.specs.declared.progress.Halt.TheVariants as halts;
 ghost use Rattle.ndr_trace.specs.Homes.{IsRoot, IsPart};
 ghost use Rattle.ndr_trace.specs.Chunks.{AfterChunk, IsAtChunk};
+ghost use Rattle.ndr_trace_value.specs.Left.{least_items};
 ghost use Rattle.ndr_trace_value.specs.Naming.{IsNaming, names_in};
 ghost use Rattle.ndr_trace_value.specs.Tracing.{IsEnded, IsGround, IsTracing, Known};
 
@@ -45,18 +46,18 @@ pub(crate) fn walk_pipe<'a>(
         return Ok(());
     };
     let mut before = 0u32;
-    // No log within the limit of a stream has so many chunks, or so many elements.
+    // Each chunk but the last one has an element, and each element an item.
     for _chunk in 0..u64::MAX {
         let size = walk_chunk(ground, walker, at, root, elem, before)?;
         if size == 0 {
             return Ok(());
         }
         let Some(next) = before.checked_add(size) else {
-            return Err(Halt::Memory);
+            return Err(Halt::Here);
         };
         before = next;
     }
-    Err(Halt::Memory)
+    unreachable!()
 }
 
 // The type of the elements of a pipe.
@@ -84,6 +85,8 @@ fn walk_chunk<'a>(
     ensures ends { (k : Known) → IsGround k ground.now → (rest : List Entry) (names : Placed_cells)
         → (g : IsAtChunk k (homes.Root at) root.entry.name.now elem.0 before rest names walker.old)
         → IsErrOf result halts.Here → IsEnded k walker.new.progress }
+    ensures taken { IfOk result (λ size. size * least_items ground.now.interface.now.types elem.0 + walker.old.progress.next
+        ≤ walker.new.progress.next) }
 {
     let home = Home::Root(at);
     let name = HomeName::Word(root.name);

@@ -32,7 +32,7 @@ use std::alloc::Global;
 /// The trace of octets that are refused.
 #[derive(Drop)]
 pub struct Traced {
-    /// A line for each item before the fault, as an explanation has it.
+    /// A line for each item before the fault, as an explanation has it; a gap whose octets are not all zero shows them, as in `6 2 gap x"00a1"`.
     pub lines: Octets,
     /// The path of the value that is refused or lacks octets. At a failed agreement that of the value that disagrees, a blank, and the path of the
     /// variable that states the number.

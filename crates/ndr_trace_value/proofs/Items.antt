@@ -1,11 +1,11 @@
 -- What an item of the log is, by the entry that it stands for: its line, and the number that it holds.
 -- `k` are the octets with the partial graph in which they are refused, `x` is a kind, `os` are an entry's octets, `i` is an item.
-use Rattle.std.proofs.Common.{◌≡◌, ◌∙◌, ℕ, ◌+◌, ◌-◌, ◌^◌, ◌<◌, ◌≤◌, zero, suc, ℤ, Bool, true, false, List, [], ◌∷◌, ◌++◌, drop, length, take, Option, Some, None, codes, refl, sym, ap, ap₂, subst}
-use Rattle.std.proofs.Common.{append_assoc, arith}
+use Rattle.std.proofs.Common.{◌≡◌, ◌∙◌, ℕ, ◌+◌, ◌-◌, ◌^◌, ◌<◌, ◌≤◌, zero, suc, ℤ, true, List, [], ◌∷◌, ◌++◌, drop, length, take, Option, Some, None, codes, refl, sym, ap, ap₂, subst}
+use Rattle.std.proofs.Common.{arith}
 use Rattle.std.proofs.Common.{◌%◌, length-append, reverse}
 use Rattle.std.proofs.Math.Nat.{mod-eq_of_lt, mod-lt, mod_self}
 use Rattle.std.specs.Prelude.{IsSome, option_map, pos}
-use Rattle.std.specs.List.{AllByRecursion, slice_get}
+use Rattle.std.specs.List.{slice_get}
 use Rattle.nd_base.specs.declared.octets.Order.{Order}
 use Rattle.nd_base.specs.declared.octets.Order.TheVariants.{Big, Little}
 use Rattle.nd_types.specs.Number.{AreOctets, unsigned, value_of_octets}
@@ -15,23 +15,22 @@ use Rattle.nd_value.specs.declared.item.ItemKind.{ItemKind}
 use Rattle.nd_value.specs.declared.item.ItemKind.TheVariants as item
 use Rattle.nd_value.specs.Tree as tree
 use Rattle.nd_value.specs.Tree.{Label}
-use Rattle.nd_grammar.specs.Entry.{Actual, Align, Chunk, Context, Entry, EntryAt, Kind, Max, Num, Number, Offset, Tag, Test, Text, Unread, end_to_end, gap, size_at}
+use Rattle.nd_grammar.specs.Entry.{Actual, Align, Chunk, Context, Entry, Kind, Max, Num, Number, Offset, Tag, Test, Text, Unread, end_to_end, gap, size_at}
 use Rattle.nd_grammar.specs.Items.{item_node, item_of}
-use Rattle.nd_grammar.specs.Stream.{IsNumber, IsRendered, Spells, id_octets, piece}
+use Rattle.nd_grammar.specs.Stream.{IsNumber, Spells, id_octets, piece}
 use Rattle.nd_grammar.proofs.next.Spelt.{piece_left}
 use Rattle.nd_grammar.proofs.reader.Ranges.{below_4}
-use Rattle.ndr_prim.specs.Context.{attributes_of, identifier, identifier_of, identifier_octets}
+use Rattle.ndr_prim.specs.Context.{attributes_of, identifier, identifier_of}
 use Rattle.ndr_prim.proofs.Contexts.{context_after_write}
 use Rattle.nd_lemmas.proofs.Lists.{four_parts, take_front}
 use Rattle.text_grammar.specs.Paths.{home_types}
 use Rattle.text_grammar.specs.Written.{quoted_text}
 use Rattle.text_printer.specs.Texts.{context_text}
 use Rattle.ndr_explain.specs.Cursors.{IsNoGap, level_place, name_text, path_to}
-use Rattle.ndr_explain.specs.Explained.{context_shown, explanation, home_flats, home_paths, item_head, item_line, item_rest, label_in, node_shown, path_in, string_shown, value_shown}
-use Rattle.ndr_explain.specs.declared.levels.Level.{Level}
+use Rattle.ndr_explain.specs.Explained.{context_shown, gap_shown, home_flats, home_paths, item_head, its_octets, label_in, line_over, path_in, rest_over, string_shown, value_shown}
 use Rattle.ndr_explain.proofs.LevelPaths.{steps_after}
-use Rattle.ndr_explain.proofs.Lines.{other_rest, three, two}
-use Rattle.ndr_trace_value.specs.Due.{Took, its_item}
+use Rattle.ndr_explain.proofs.Lines.{other_rest, three}
+use Rattle.ndr_trace_value.specs.Due.{Took}
 use Rattle.ndr_trace_value.specs.Untested.{is_test}
 use Rattle.ndr_trace_value.proofs.Gaps.{gap_item}
 use Rattle.ndr_trace_value.specs.declared.progress.Ground.{Ground}
@@ -428,12 +427,12 @@ module _ (k : Known) (u : Ground) (ground : IsGround k u) where
           e3 ∙ steps_after t2 (name_text s.name) (s.top ∷ reverse s.below.now.items)
           ∙ ap (λ q. t2 ++ q) (spot.path ∙ ap₂ (λ (h : Home) (m : ℕ). path_in (home_paths k.setting k.graph h) m) (sym home) (sym node))
 
-      line : p1.lines ≡ p.lines ++ item_line k.setting k.graph i
+      line : p1.lines ≡ p.lines ++ line_over k.setting k.graph k.fetched i
       line =
           lines
           ∙ six_parts p.lines t1 t2 t3 t4 t5 t6 (item_head i) (codes " ") (path_in (home_paths k.setting k.graph i.home) i.node) (codes " ")
           (value_shown i.kind (label_in (home_flats k.graph i.home) i.node) i.value) (codes "\n") e1 e2 path_shown e4 (e5 (label_in (home_flats k.graph i.home) i.node) is_shown) e6
-          ∙ ap (λ r. p.lines ++ (item_head i ++ r)) (sym (other_rest k.setting k.graph i i.kind (subst IsNoGap (sym kind) (no_gap k.order x (piece k.fetched p.at x) item))))
+          ∙ ap (λ r. p.lines ++ (item_head i ++ r)) (sym (other_rest k.setting k.graph k.fetched i i.kind (subst IsNoGap (sym kind) (no_gap k.order x (piece k.fetched p.at x) item))))
 
   -- its node is that of its entry
   pub item_node_is : (p : Progress) (m : Entry) → IsItem m.kind → (rest : List Entry) → IsTracing k p (m ∷ rest) → (i : Item) → slice_get u.items.now.items p.next ≡ Some i
@@ -448,10 +447,10 @@ module _ (k : Known) (u : Ground) (ground : IsGround k u) where
 
   -- a gap with its line: the next entry is due
   pub gap_goes : (s : Spot) (n align : ℕ) (rest : List Entry) (p p1 : Progress) → 0 < gap p.at align → IsTracing k p (entry_at s n (Align align) ∷ rest)
-      → (i : Item) → slice_get u.items.now.items p.next ≡ Some i → (t1 t2 : List ℕ) → t1 ≡ p.lines ++ item_head i → t2 ≡ t1 ++ codes "\n"
-      → p1.lines ≡ t2 → p1.next ≡ p.next + 1 → p1.at ≡ i.at + i.len → p1.path ≡ p.path → p1.variable ≡ p.variable → p1.from ≡ p.from
+      → (i : Item) → slice_get u.items.now.items p.next ≡ Some i → (t1 t2 t3 : List ℕ) → t1 ≡ p.lines ++ item_head i → t2 ≡ t1 ++ gap_shown (its_octets u.octets.now i)
+      → t3 ≡ t2 ++ codes "\n" → p1.lines ≡ t3 → p1.next ≡ p.next + 1 → p1.at ≡ i.at + i.len → p1.path ≡ p.path → p1.variable ≡ p.variable → p1.from ≡ p.from
       → IsTracing k p1 rest
-  gap_goes s n align rest p p1 some t i got t1 t2 e1 e2 lines next at path variable from =
+  gap_goes s n align rest p p1 some t i got t1 t2 t3 e1 e2 e3 lines next at path variable from =
       item_passed k p p1 (entry_at s n (Align align)) rest (item.Gap, pos 0) i one t there next at (path ∙ t.path ∙ held_on k (sought_path k) p.next another)
       (variable ∙ t.variable ∙ held_on k (sought_variable k) p.next another) (subst (KeptFrom k (p.next + 1)) (sym from) (from_on k p.next p.from another t.from)) line
     where
@@ -465,10 +464,21 @@ module _ (k : Known) (u : Ground) (ground : IsGround k u) where
       another : k.sought ≡ Some p.next → ⊥
       another e = ground.no_gap p.next e i there (ap (λ (y : Item). y.kind) one.is_item)
 
-      line : p1.lines ≡ p.lines ++ item_line k.setting k.graph i
+      within : i.at + i.len ≤ length k.fetched
+      within =
+          let h : p.at + gap p.at align ≤ length k.fetched = one.rendered.0 in
+          let a : i.at ≡ p.at = ap (λ (y : Item). y.at) one.is_item in
+          let l : i.len ≡ gap p.at align = ap (λ (y : Item). y.len) one.is_item in
+          omega (arith, h, a, l)
+
+      its : its_octets u.octets.now i ≡ its_octets k.fetched i
+      its = ap (λ os. its_octets os i) ground.octets ∙ piece_left i.at i.len k.fetched ground.more within
+
+      line : p1.lines ≡ p.lines ++ line_over k.setting k.graph k.fetched i
       line =
-          lines ∙ two p.lines t1 t2 (item_head i) (codes "\n") e1 e2
-          ∙ ap (λ r. p.lines ++ (item_head i ++ r)) (ap (λ m. item_rest k.setting k.graph m i) (sym (ap (λ (y : Item). y.kind) one.is_item)))
+          lines ∙ three p.lines t1 t2 t3 (item_head i) (gap_shown (its_octets u.octets.now i)) (codes "\n") e1 e2 e3
+          ∙ ap (λ os. p.lines ++ (item_head i ++ (gap_shown os ++ codes "\n"))) its
+          ∙ ap (λ r. p.lines ++ (item_head i ++ r)) (ap (λ m. rest_over k.setting k.graph k.fetched m i) (sym (ap (λ (y : Item). y.kind) one.is_item)))
 
   -- an empty gap
   pub gap_empty : (s : Spot) (n align : ℕ) (rest : List Entry) (p : Progress) → 0 < align → p.at % align ≡ 0

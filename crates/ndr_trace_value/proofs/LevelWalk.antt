@@ -97,11 +97,11 @@ no_level : (types : List ℕ) (ways : List ℕ → List (List ℕ)) (types1 : Li
 no_level types ways types1 ways1 None e e1 h = e1
 no_level types ways types1 ways1 (Some L) e e1 h = let z = ap length (h.0.1 ∙ e) in let p = h.0.0 in absurd (omega (arith, z, p))
 
-abbrev trees_of : ℕ → Trees
+abbrev pub trees_of : ℕ → Trees
 trees_of zero = none
 trees_of (suc n) = more (node tree.Unread none) (trees_of n)
 
-so_many : (n : ℕ) → count (trees_of n) ≡ n
+pub so_many : (n : ℕ) → count (trees_of n) ≡ n
 so_many zero = refl
 so_many (suc n) = ap suc (so_many n)
 
@@ -144,7 +144,7 @@ pub level_has_child : (types : List ℕ) (ways : List ℕ → List (List ℕ)) (
 level_has_child types ways None h = tt
 level_has_child types ways (Some L) h = h.0.0
 
-inner_types_are : (types : List ℕ) (ways : List ℕ → List (List ℕ)) (i : Option Level) → IsLevelOf types ways i → inner_types i ≡ types
+pub inner_types_are : (types : List ℕ) (ways : List ℕ → List (List ℕ)) (i : Option Level) → IsLevelOf types ways i → inner_types i ≡ types
 inner_types_are types ways None h = sym h
 inner_types_are types ways (Some L) h = h.0.1
 

@@ -11,6 +11,7 @@ pub mod Passing
 pub mod Placed
 pub mod Attributes
 pub mod LastVariables
+pub mod Left
 pub mod Untested
 pub mod Due
 pub mod Numbers

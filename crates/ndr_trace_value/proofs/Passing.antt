@@ -12,7 +12,7 @@ use Rattle.nd_value.specs.declared.item.Item.{Item}
 use Rattle.nd_value.specs.declared.item.ItemKind.{ItemKind}
 use Rattle.nd_grammar.specs.Entry.{Align, Entry, EntryAt, Kind, end_to_end, gap, size_at}
 use Rattle.nd_grammar.specs.Stream.{IsRendered}
-use Rattle.ndr_explain.specs.Explained.{explanation, item_line}
+use Rattle.ndr_explain.specs.Explained.{explanation_over, line_over}
 use Rattle.ndr_trace_value.specs.Due.{CanStop, Stops, Took, its_item}
 use Rattle.ndr_trace_value.specs.Untested.{is_test}
 use Rattle.ndr_trace_value.proofs.Gaps.{empty_gap}
@@ -27,18 +27,18 @@ use Rattle.ndr_trace_value.specs.Traces.{entry_path}
 
 module _ (k : Known) where
   abbrev shown : List Item → List ℕ
-  shown xs = explanation k.setting k.graph xs
+  shown xs = explanation_over k.setting k.graph k.fetched xs
 
   abbrev pub placed : Progress → Entry → EntryAt
   placed p m = record { at = p.at; entry = m }
 
   -- the lines with that of one item more, and all of them
-  more_lines : (n : ℕ) (i : Item) (t t1 : List ℕ) → slice_get k.log n ≡ Some i → t ≡ shown (take n k.log) → t1 ≡ t ++ item_line k.setting k.graph i
+  more_lines : (n : ℕ) (i : Item) (t t1 : List ℕ) → slice_get k.log n ≡ Some i → t ≡ shown (take n k.log) → t1 ≡ t ++ line_over k.setting k.graph k.fetched i
       → t1 ≡ shown (take (n + 1) k.log)
   more_lines n i t t1 got e f =
-      let line = item_line k.setting k.graph i in
+      let line = line_over k.setting k.graph k.fetched i in
       f ∙ ap (λ u. u ++ line) e ∙ ap (λ u. shown (take n k.log) ++ u) (sym (append-nil line))
-      ∙ sym (flat_map-append (item_line k.setting k.graph) (take n k.log) (i ∷ [])) ∙ sym (ap shown (take_next k.log n i got))
+      ∙ sym (flat_map-append (line_over k.setting k.graph k.fetched) (take n k.log) (i ∷ [])) ∙ sym (ap shown (take_next k.log n i got))
 
   pub all_lines : (n : ℕ) (t : List ℕ) → length k.log ≤ n → t ≡ shown (take n k.log) → t ≡ shown k.log
   all_lines n t over e =
@@ -164,7 +164,7 @@ module _ (k : Known) where
   pub item_passed : (p p1 : Progress) (m : Entry) (rest : List Entry) (z : ItemKind × ℤ) (i : Item)
       → Took k.order k.fetched k.numbering k.here (placed p m) (end_to_end (p.at + size_at p.at m.kind) rest) z i (drop (p.next + 1) k.log)
       → IsTracing k p (m ∷ rest) → slice_get k.log p.next ≡ Some i → p1.next ≡ p.next + 1 → p1.at ≡ i.at + i.len → p1.path ≡ kept k (p.next + 1)
-      → p1.variable ≡ kept_variable k (p.next + 1) → KeptFrom k (p.next + 1) p1.from → p1.lines ≡ p.lines ++ item_line k.setting k.graph i → IsTracing k p1 rest
+      → p1.variable ≡ kept_variable k (p.next + 1) → KeptFrom k (p.next + 1) p1.from → p1.lines ≡ p.lines ++ line_over k.setting k.graph k.fetched i → IsTracing k p1 rest
   item_passed p p1 m rest z i one t got next at path variable from lines = record {
     within = (let b = slice_get_within k.log p.next i got in omega (arith, next, b));
     lines = more_lines p.next i p.lines p1.lines got t.lines lines ∙ ap (λ n. shown (take n k.log)) (sym next);

@@ -8,3 +8,4 @@ pub mod Places
 pub mod Untested
 pub mod Due
 pub mod Counting
+pub mod Left

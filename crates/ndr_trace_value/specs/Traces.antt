@@ -25,7 +25,7 @@ use Rattle.nd_grammar.specs.Items.{items}
 use Rattle.ndr_decoder_laws.specs.verdict.InOrder.{HasOwnNumbers}
 use Rattle.text_grammar.specs.Paths.{home_types, home_value, member_path}
 use Rattle.text_grammar.specs.Written.{parameter_name}
-use Rattle.ndr_explain.specs.Explained.{home_paths, path_in, explanation}
+use Rattle.ndr_explain.specs.Explained.{explanation_over, home_paths, path_in}
 
 -- ## The variable of an agreement that does not hold
 
@@ -115,7 +115,8 @@ pub record IsVariable (w : Setting) (g : Graph) (m : Entry) (a : Attr) (wanted :
 
 -- ## The trace of refused octets
 
--- It has the lines of the items before the fault, as an explanation has them, and the path of the entry that is refused or lacks octets.
+-- It has the lines of the items before the fault, as an explanation has them, where each gap shows its octets if they are not all zero; and the path
+-- of the entry that is refused or lacks octets.
 -- `w` is a setting, `g` a partial graph, `m` an entry.
 
 abbrev pub entry_path : Setting → Graph → Entry → List ℕ
@@ -135,7 +136,7 @@ IsShownPath w g m _ path = path ≡ entry_path w g m
 -- The octets are refused, and this is their trace, by a partial graph: a line for each item before the fault, and the path of what is refused.
 pub record IsTraceOf (w : Setting) (order : Order) (octets : List ℕ) (place : ℕ) (why : Reason) (bad : Bad w order octets place why)
     (lines path : List ℕ) : Type 0 where
-  pub lines_are : lines ≡ explanation w bad.partial (items order octets bad.earlier)
+  pub lines_are : lines ≡ explanation_over w bad.partial octets (items order octets bad.earlier)
   pub path_is : IsShownPath w bad.partial bad.here.entry bad.here.entry.kind path
 
 -- The octets are refused at this place and for this reason, and this is their trace: by a partial graph whose cells are numbered in the order of

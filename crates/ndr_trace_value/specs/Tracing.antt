@@ -22,7 +22,7 @@ use Rattle.text_grammar.specs.Paths.{home_types}
 use Rattle.text_grammar.specs.Written.{quoted_text}
 use Rattle.text_printer.specs.Texts.{context_text}
 use Rattle.ndr_explain.specs.Cursors.{Place, level_place, name_text, path_to}
-use Rattle.ndr_explain.specs.Explained.{context_shown, explanation, home_flats, home_paths, label_in, path_in, string_shown}
+use Rattle.ndr_explain.specs.Explained.{context_shown, explanation_over, home_flats, home_paths, label_in, path_in, string_shown}
 use Rattle.ndr_trace_value.specs.Due.{Stops}
 use Rattle.ndr_trace_value.specs.Untested.{is_test}
 use Rattle.ndr_trace_value.specs.declared.pointers.PointerSpot.{PointerSpot}
@@ -67,6 +67,8 @@ pub record IsGround (k : Known) (u : Ground) : Type 0 where
   pub kind_is : option_map (λ s. s.kind) u.sought ≡ kind_in k.log k.sought
   pub no_gap : (j : ℕ) → k.sought ≡ Some j → (i : Item) → slice_get k.log j ≡ Some i → i.kind ≡ item.Gap → ⊥
   pub are_octets : AreOctets k.fetched
+  -- within the limit of a stream there are no more
+  pub few : length u.items.now.items < 2 ^ 32
   pub is_numbering : IsNumbering k.numbering k.full
 
 -- the path of the value that has the count or tag which an item is
@@ -134,7 +136,7 @@ either_from false p q = q
 -- The items so far have their lines, and then these entries are due.
 pub record IsTracing (k : Known) (p : Progress) (ms : List Entry) : Type 0 where
   pub within : p.next ≤ length k.log
-  pub lines : p.lines ≡ explanation k.setting k.graph (take p.next k.log)
+  pub lines : p.lines ≡ explanation_over k.setting k.graph k.fetched (take p.next k.log)
   pub path : p.path ≡ kept k p.next
   pub variable : p.variable ≡ kept_variable k p.next
   pub from : KeptFrom k p.next p.from
@@ -143,7 +145,7 @@ pub record IsTracing (k : Known) (p : Progress) (ms : List Entry) : Type 0 where
 -- All items have their lines, and the path is that of the entry at which reading stopped; if it stopped at an agreement, that of the value which has
 -- the count or tag that is sought.
 pub record IsEnded (k : Known) (p : Progress) : Type 0 where
-  pub lines : p.lines ≡ explanation k.setting k.graph k.log
+  pub lines : p.lines ≡ explanation_over k.setting k.graph k.fetched k.log
   pub path : ((is_test k.here.entry.kind ≡ true) × (p.path ≡ kept k (length k.log)))
       ⊎ ((is_test k.here.entry.kind ≡ false) × (p.path ≡ entry_path k.setting k.graph k.here.entry))
   pub variable : p.variable ≡ kept_variable k (length k.log)

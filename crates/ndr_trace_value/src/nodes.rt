@@ -12,6 +12,7 @@ ghost use Rattle.nd_grammar.specs.Entry.{Actual, Align, Context, Entry, Num, Num
 ghost use Rattle.ndr_explain.specs.Cursors.{level_paths, level_places, level_types, name_text, paths_from, places_from, types_from};
 ghost use Rattle.ndr_explain.specs.Explained.{home_flats, label_in};
 ghost use Rattle.ndr_trace_value.specs.declared.progress.Halt.TheVariants as halts;
+ghost use Rattle.ndr_trace_value.specs.Left.{GoesDown, HaveTaken, items_left, least_items, total};
 ghost use Rattle.ndr_trace_value.specs.Naming.{HasNamed, IsFine, IsNaming, named_by, names_in};
 ghost use Rattle.ndr_trace_value.specs.Tracing.{Known, IsEnded, IsFrom, IsGround, IsSpot, IsTracing, entry_at};
 ghost use Rattle.ndr_trace_value.specs.Walking.{AreThere, ComesTo, HavePaid, IsNode, IsPaid, IsReady, IsSeen, flat_shape, own_due, values_due};
@@ -47,31 +48,30 @@ pub fn walk_level<'a>(
     from: &Option<PointerSpot>,
     first: Level<'a>,
 ) -> Result<(), Halt>
-    ensures goes { 0 < length (level_types first.entry) → (k : Known) → IsGround k ground.now → IsFrom k home from.now → (n : ℕ) (left : Trees)
+    requires some { 0 < length (level_types first.entry) }
+    ensures goes { (k : Known) → IsGround k ground.now → IsFrom k home from.now → (n : ℕ) (left : Trees)
         → AreThere k home max (level_types first.entry) (level_paths (name_text name.entry) first.entry) (level_places first.entry) n left
         → (rest : List Entry) → IsTracing k walker.old.progress (values_due k home (level_types first.entry) n left ++ rest)
         → (names : Placed_cells) → IsNaming k walker.old.cells (names_in (values_due k home (level_types first.entry) n left) ++ names)
         → IfOk result (λ _. IsTracing k walker.new.progress rest
         × HasNamed k walker.old.cells walker.new.cells (values_due k home (level_types first.entry) n left) names) }
-    ensures ends { 0 < length (level_types first.entry) → (k : Known) → IsGround k ground.now → IsFrom k home from.now → (n : ℕ) (left : Trees)
+    ensures ends { (k : Known) → IsGround k ground.now → IsFrom k home from.now → (n : ℕ) (left : Trees)
         → AreThere k home max (level_types first.entry) (level_paths (name_text name.entry) first.entry) (level_places first.entry) n left
         → (rest : List Entry) → IsTracing k walker.old.progress (values_due k home (level_types first.entry) n left ++ rest)
         → (names : Placed_cells) → IsNaming k walker.old.cells (names_in (values_due k home (level_types first.entry) n left) ++ names)
         → IsErrOf result halts.Here → IsEnded k walker.new.progress }
     ensures paid { IfOk result (λ _. IsPaid walker.old walker.new) }
+    ensures taken { IfOk result (λ _. total (least_items ground.now.interface.now.types) (level_types first.entry) + walker.old.progress.next
+        ≤ walker.new.progress.next) }
 {
     let mut levels = Levels {
         top: first,
         below: Vec::new(ground.alloc),
     };
-    // No log within the limit of a stream has so many nodes.
-    for _turn in 0..u64::MAX {
-        let Some(next) = take_node(ground, walker, home, name, max, from, levels)? else {
-            return Ok(());
-        };
+    while let Some(next) = take_node(ground, walker, home, name, max, from, levels)? {
         levels = next;
     }
-    Err(Halt::Memory)
+    Ok(())
 }
 
 // Passes the node at which levels are. Gives those of the node after it, if there is one.
@@ -84,7 +84,8 @@ fn take_node<'a>(
     from: &Option<PointerSpot>,
     levels: Levels<'a>,
 ) -> Result<Option<Levels<'a>>, Halt>
-    ensures goes { 0 < length (level_types levels.entry.top) → (k : Known) → IsGround k ground.now → IsFrom k home from.now → (n : ℕ) (left : Trees)
+    requires some { 0 < length (level_types levels.entry.top) }
+    ensures goes { (k : Known) → IsGround k ground.now → IsFrom k home from.now → (n : ℕ) (left : Trees)
         → AreThere k home max (types_from levels.entry.top (reverse levels.entry.below.items))
         (paths_from (name_text name.entry) levels.entry.top (reverse levels.entry.below.items))
         (places_from levels.entry.top (reverse levels.entry.below.items)) n left
@@ -94,7 +95,7 @@ fn take_node<'a>(
         → IsNaming k walker.old.cells (names_in (values_due k home (types_from levels.entry.top (reverse levels.entry.below.items)) n left) ++ names)
         → IfOk result (ComesTo k home max (name_text name.entry)
         (values_due k home (types_from levels.entry.top (reverse levels.entry.below.items)) n left) rest names walker.old walker.new) }
-    ensures ends { 0 < length (level_types levels.entry.top) → (k : Known) → IsGround k ground.now → IsFrom k home from.now → (n : ℕ) (left : Trees)
+    ensures ends { (k : Known) → IsGround k ground.now → IsFrom k home from.now → (n : ℕ) (left : Trees)
         → AreThere k home max (types_from levels.entry.top (reverse levels.entry.below.items))
         (paths_from (name_text name.entry) levels.entry.top (reverse levels.entry.below.items))
         (places_from levels.entry.top (reverse levels.entry.below.items)) n left
@@ -104,6 +105,9 @@ fn take_node<'a>(
         → IsNaming k walker.old.cells (names_in (values_due k home (types_from levels.entry.top (reverse levels.entry.below.items)) n left) ++ names)
         → IsErrOf result halts.Here → IsEnded k walker.new.progress }
     ensures paid { IfOk result (λ _. IsPaid walker.old walker.new) }
+    ensures taken { IfOk result (λ r. items_left ground.now.interface.now.types (Some levels.entry) + walker.old.progress.next
+        ≤ items_left ground.now.interface.now.types r + walker.new.progress.next) }
+    ensures down { IfOk result (GoesDown ground.now.interface.now.types levels.entry) }
 {
     let Levels { top, below } = levels;
     let of = type_of(top);
@@ -150,6 +154,7 @@ fn own_items<'a>(
         → (names : Placed_cells) → IsNaming k cells.old (names_in (own_due k spot.now.home n of.0 l ks) ++ names)
         → IsErrOf result halts.Here → IsEnded k progress.new }
     ensures paid { IfOk result (λ _. HavePaid progress.old cells.old progress.new cells.new) }
+    ensures taken { IfOk result (λ shape. HaveTaken ground.now.interface.now.types of.0 (flat_shape shape) progress.old progress.new) }
 {
     match ground.interface.types.get(of.0 as usize) {
         Some(TypeDef::Prim(prim)) => number(ground, progress, width_of(*prim) as u64, spot),
@@ -198,6 +203,7 @@ fn number<'a>(
         → IsTracing k progress.old (entry_at spot.now n (Align width) ∷ entry_at spot.now n (Num p values z) ∷ rest)
         → IsErrOf result halts.Here → IsEnded k progress.new }
     ensures later { IfOk result (λ _. progress.old.next ≤ progress.new.next) }
+    ensures more { IfOk result (λ _. progress.old.next < progress.new.next) }
 {
     gap(ground, progress, width, spot)?;
     let value = item(ground, progress, spot)?;
@@ -219,6 +225,7 @@ fn structure<'a>(
         → (rest : List Entry) → IsTracing k progress.old (entry_at spot.now n (Align align) ∷ rest)
         → IsErrOf result halts.Here → IsEnded k progress.new }
     ensures later { IfOk result (λ _. progress.old.next ≤ progress.new.next) }
+    ensures is { IfOk result (λ shape. flat_shape shape ≡ (labels.Rec, 0)) }
 {
     gap(ground, progress, align, spot)?;
     Ok(Shape::Rec)
@@ -245,6 +252,7 @@ fn array<'a>(
         ∷ entry_at spot.now n (Actual false offset limit actual) ∷ rest)
         → IsErrOf result halts.Here → IsEnded k progress.new }
     ensures later { IfOk result (λ _. progress.old.next ≤ progress.new.next) }
+    ensures more { varying ≡ true → IfOk result (λ _. progress.old.next < progress.new.next) }
 {
     if !varying {
         return Ok(Shape::Arr {
@@ -276,6 +284,7 @@ fn text<'a>(
         ∷ entry_at spot.now n (Actual true 0 max (length octets + 1)) ∷ entry_at spot.now n (Text octets) ∷ rest)
         → IsErrOf result halts.Here → IsEnded k progress.new }
     ensures later { IfOk result (λ _. progress.old.next ≤ progress.new.next) }
+    ensures more { IfOk result (λ _. progress.old.next < progress.new.next) }
 {
     gap(ground, progress, 4, spot)?;
     item(ground, progress, spot)?;
@@ -304,6 +313,7 @@ fn tagged<'a>(
         → IsTracing k progress.old (entry_at spot.now n (Align width) ∷ entry_at spot.now n (Tag p values arms.now default.now z) ∷ rest)
         → IsErrOf result halts.Here → IsEnded k progress.new }
     ensures later { IfOk result (λ _. progress.old.next ≤ progress.new.next) }
+    ensures more { IfOk result (λ _. progress.old.next < progress.new.next) }
 {
     gap(ground, progress, width, spot)?;
     let tag = item(ground, progress, spot)?;
@@ -351,6 +361,7 @@ fn pointer<'a>(
         → (rest : List Entry)
         → IsTracing k progress.old (entry_at spot.now n (Align 4) ∷ entry_at spot.now n (Number class to.0 cell) ∷ rest)
         → IsErrOf result halts.Here → IsEnded k progress.new }
+    ensures more { IfOk result (λ _. progress.old.next < progress.new.next) }
     ensures paid { IfOk result (λ _. HavePaid progress.old cells.old progress.new cells.new) }
 {
     gap(ground, progress, 4, spot)?;
@@ -376,6 +387,7 @@ fn context<'a>(
         → IsTracing k progress.old (entry_at spot.now n (Align 4) ∷ entry_at spot.now n (Context attributes id) ∷ rest)
         → IsErrOf result halts.Here → IsEnded k progress.new }
     ensures later { IfOk result (λ _. progress.old.next ≤ progress.new.next) }
+    ensures more { IfOk result (λ _. progress.old.next < progress.new.next) }
 {
     gap(ground, progress, 4, spot)?;
     item(ground, progress, spot)?;

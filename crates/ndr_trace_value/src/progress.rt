@@ -21,7 +21,7 @@ use nd_base::{Memory, Octets, Order};
 use nd_flat::Fit;
 use nd_types::{Interface, Side};
 use nd_value::{Home, Item, ItemKind, ItemLog};
-use ndr_explain::{HomeName, Level, append_head, append_home, append_steps};
+use ndr_explain::{HomeName, Level, append_gap, append_head, append_home, append_steps};
 use ndr_prim::read_context;
 use std::alloc::Global;
 use text_printer::{append_context, append_number, append_quoted};
@@ -88,7 +88,7 @@ pub struct Spot<'s, 'a> {
     pub from: &'s Option<PointerSpot>,
 }
 
-/// Passes the gap before an aligned item, with a line if it is not empty.
+/// Passes the gap before an aligned item, with a line if it is not empty, which shows its octets if they are not all zero.
 pub fn gap(
     ground: &Ground<'_>,
     progress: &mut Progress,
@@ -113,6 +113,7 @@ pub fn gap(
         unreachable!()
     };
     append_head(&mut progress.lines, item)?;
+    append_gap(&mut progress.lines, ground.octets, item)?;
     progress.lines.append(b"\n")?;
     pass(progress, item);
     Ok(())

@@ -1,5 +1,5 @@
 // What the items of a node say of it.
-ghost use Rattle.std.specs.Prelude.{◌≡◌};
+ghost use Rattle.std.specs.Prelude.{◌≡◌, ◌<◌, ◌^◌};
 ghost use Rattle.nd_flat.specs.FlatForm.{flat_seen};
 ghost use Rattle.ndr_trace_value.specs.Walking.{flat_shape};
 
@@ -25,7 +25,8 @@ pub enum Shape {
 
 /// The node of a shape, as an explanation walks over it: of a string or a context handle it is one without children.
 pub(crate) fn as_seen<'n>(shape: Shape) -> Seen<'n>
-    ensures { flat_seen result ≡ flat_shape shape }
+    ensures is { flat_seen result ≡ flat_shape shape }
+    ensures few { (flat_shape shape).1 < 2 ^ 32 }
 {
     match shape {
         Shape::Num(value) => Seen::Num(value),

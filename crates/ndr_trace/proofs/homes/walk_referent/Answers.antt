@@ -1,4 +1,4 @@
-use Rattle.std.proofs.Common.{◌≡◌, rules, true, false, refl, sym, ◌∙◌}
+use Rattle.std.proofs.Common.{◌≡◌, ◌+◌, ◌≤◌, rules, true, false, length, refl, sym, ap, arith, le_refl, ◌∙◌}
 use Rattle.ndr_trace_value.specs.declared.progress.Halt.TheVariants as halts
 use Rattle.ndr_trace_value.specs.declared.nodes.Walker.{Walker}
 use Rattle.ndr_trace_value.proofs.Passing.{err_as}
@@ -30,3 +30,14 @@ returns-clause-goes c k u s due rest names n =
     c.in_ok-first.ensures.count c.in_ok-first.ensures.numbers c.in_ok-first.ensures.pending refl in
     let walked = c.in_ok-walk_home.ensures.goes k u at_it.its (referent_from k due rest names c.args.walker.now c.args.next s n) at_it.later at_it.after_names at_it.tracing at_it.naming in
     at_it.after c.walk_home.new.walker walked.0 walked.1
+
+pub returns-then-not-first-clause-paid : goal.returns-then-not-first-clause-paid
+returns-then-not-first-clause-paid c =
+    let same : length c.come_to.new.cells.pending.items ≡ length c.args.walker.now.cells.pending.items = ap (λ ps. length ps) c.in_ok-first.ensures.pending in
+    (le_refl _, omega (arith, same))
+
+pub returns-clause-paid : goal.returns-clause-paid
+returns-clause-paid c =
+    let same : length c.come_to.new.cells.pending.items ≡ length c.args.walker.now.cells.pending.items = ap (λ ps. length ps) c.in_ok-first.ensures.pending in
+    let (later, paid) = c.in_ok-walk_home.ensures.paid in
+    (later, omega (arith, same, paid))

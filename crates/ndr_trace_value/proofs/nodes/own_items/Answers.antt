@@ -1,12 +1,15 @@
 use Rattle.std.proofs.Common.{refl, ◌≡◌, ◌∙◌, ◌<◌, ◌≤◌, ◌+◌, Some, None, false, true, length, sym, ap, subst, arith, le_refl}
-use Rattle.std.specs.Prelude.{IfOk, IsErrOf}
+use Rattle.std.specs.Prelude.{IfOk, IsErrOf, Ok}
 use Rattle.nd_types.specs.Layout.{align_of, hoists, hoists_by}
 use Rattle.nd_types.specs.Table.{type_at}
 use Rattle.nd_types.proofs.LayoutLaws.{hoists-legal}
 use Rattle.ndr_trace_value.specs.declared.progress.Halt.TheVariants as halts
 use Rattle.ndr_trace_value.specs.Tracing.{IsEnded}
 use Rattle.ndr_trace_value.specs.Walking.{width_by}
+use Rattle.nd_grammar.proofs.reader.FewNodes.{some_bound}
+use Rattle.ndr_trace_value.specs.declared.shapes.Shape.TheVariants as shape
 use Rattle.ndr_trace_value.proofs.Alignments.{some_align}
+use Rattle.ndr_trace_value.proofs.Left.{array_taken, leaf_taken, none_taken, struct_taken}
 use Rattle.ndr_trace_value.proofs.ByType.{any_array_ends, any_array_goes, context_ends, context_goes, enum_ends, enum_goes, none_goes, paid_same, pipe_goes, pointer_ends, pointer_goes, prim_ends}
 use Rattle.ndr_trace_value.proofs.ByType.{prim_goes}
 use Rattle.ndr_trace_value.proofs.ByType.{struct_ends, struct_goes, text_ends, text_goes, union_ends, union_goes}
@@ -137,3 +140,51 @@ returns-in-Some-Pipe-clause-goes c k u n l ks node ready rest t names nm = pipe_
 pub returns-in-None-clause-goes : goal.returns-in-None-clause-goes
 returns-in-None-clause-goes c k u n l ks node ready rest t names nm =
     none_goes k c.args.spot.now n c.args.max c.args.of.0 l ks node c.args.progress.now ready rest t (ap (λ ts. type_at ts c.args.of.0) (sym u.table) ∙ c.in-None.ensures.none)
+
+pub returns-in-Some-Prim-clause-taken : goal.returns-in-Some-Prim-clause-taken
+returns-in-Some-Prim-clause-taken c =
+    leaf_taken c.args.ground.now.interface.now.types c.args.of.0 c.args.progress.now c.number.new.progress c.number.result _ (c.in-Some-Prim.ensures.some ∙ ap (λ d. Some d) c.in-Some-Prim.field-0-is) (λ least. omega arith)
+    c.number.ensures.more
+
+pub returns-in-Some-Enum-clause-taken : goal.returns-in-Some-Enum-clause-taken
+returns-in-Some-Enum-clause-taken c =
+    leaf_taken c.args.ground.now.interface.now.types c.args.of.0 c.args.progress.now c.number-in-Some-Enum.new.progress c.number-in-Some-Enum.result _ (c.in-Some-Enum.ensures.some ∙ ap (λ d. Some d) c.in-Some-Enum.field-0-is) (λ least. omega arith)
+    c.number-in-Some-Enum.ensures.more
+
+pub returns-in-Some-Text-clause-taken : goal.returns-in-Some-Text-clause-taken
+returns-in-Some-Text-clause-taken c =
+    leaf_taken c.args.ground.now.interface.now.types c.args.of.0 c.args.progress.now c.text.new.progress c.text.result _ (c.in-Some-Text.ensures.some ∙ ap (λ d. Some d) c.in-Some-Text.field-0-is) (λ least. omega arith)
+    c.text.ensures.more
+
+pub returns-in-Some-Context-clause-taken : goal.returns-in-Some-Context-clause-taken
+returns-in-Some-Context-clause-taken c =
+    leaf_taken c.args.ground.now.interface.now.types c.args.of.0 c.args.progress.now c.context.new.progress c.context.result _ (c.in-Some-Context.ensures.some ∙ ap (λ d. Some d) c.in-Some-Context.field-0-is) (λ least. omega arith)
+    c.context.ensures.more
+
+pub returns-in-Some-Union-clause-taken : goal.returns-in-Some-Union-clause-taken
+returns-in-Some-Union-clause-taken c =
+    leaf_taken c.args.ground.now.interface.now.types c.args.of.0 c.args.progress.now c.tagged.new.progress c.tagged.result _ (c.in-Some-Union.ensures.some ∙ ap (λ d. Some d) c.in-Some-Union.field-0-is) (λ least. omega arith)
+    c.tagged.ensures.more
+
+pub returns-in-Some-Pointer-clause-taken : goal.returns-in-Some-Pointer-clause-taken
+returns-in-Some-Pointer-clause-taken c =
+    leaf_taken c.args.ground.now.interface.now.types c.args.of.0 c.args.progress.now c.pointer.new.progress c.pointer.result _ (c.in-Some-Pointer.ensures.some ∙ ap (λ d. Some d) c.in-Some-Pointer.field-0-is) (λ least. omega arith)
+    c.pointer.ensures.more
+
+pub returns-in-Some-Struct-clause-taken : goal.returns-in-Some-Struct-clause-taken
+returns-in-Some-Struct-clause-taken c =
+    struct_taken c.args.ground.now.interface.now.types c.args.of.0 c.args.progress.now c.structure.new.progress c.structure.result _ (c.in-Some-Struct.ensures.some ∙ ap (λ d. Some d) c.in-Some-Struct.field-0-is) c.structure.ensures.is c.structure.ensures.later
+
+pub returns-in-Some-Array-clause-taken : goal.returns-in-Some-Array-clause-taken
+returns-in-Some-Array-clause-taken c =
+    let i = c.args.ground.now.interface.now in
+    array_taken c.args.ground.now.interface.now.types c.args.of.0 c.args.progress.now c.array.new.progress c.array.result _ _ _ (c.in-Some-Array.ensures.some ∙ ap (λ d. Some d) c.in-Some-Array.field-0-is) c.args.max _ c.unwrap_or-max.ensures
+    (λ b is. some_bound i.types i.operations i.legal c.args.of.0 _ b _ is) c.array.ensures.fixed c.array.ensures.more
+
+pub returns-in-Some-Pipe-clause-taken : goal.returns-in-Some-Pipe-clause-taken
+returns-in-Some-Pipe-clause-taken c =
+    none_taken c.args.ground.now.interface.now.types c.args.of.0 c.args.progress.now c.args.progress.now (Ok shape.Leaf) _ (c.in-Some-Pipe.ensures.some ∙ ap (λ d. Some d) c.in-Some-Pipe.field-0-is) (λ least. refl) (le_refl c.args.progress.now.next)
+
+pub returns-in-None-clause-taken : goal.returns-in-None-clause-taken
+returns-in-None-clause-taken c =
+    none_taken c.args.ground.now.interface.now.types c.args.of.0 c.args.progress.now c.args.progress.now (Ok shape.Leaf) None c.in-None.ensures.none (λ least. refl) (le_refl c.args.progress.now.next)

@@ -26,4 +26,5 @@ pub returns-clause-goes : goal.returns-clause-goes
 returns-clause-goes c k u n rest t =
     gap_goes k c.args.ground.now u c.args.spot.now n c.args.align rest c.args.progress.now c.pass.new.progress
     (some_gap c.args.progress.now.at c.args.align c.requires c.if-progress-align-eq0.false) t c.in-Some.item.now c.in-Some.ensures.some c.append_head.new.text
-    c.append.new.self c.in_ok-append_head.ensures c.in_ok-append.ensures.ok c.pass.ensures.lines c.pass.ensures.next c.pass.ensures.at c.pass.ensures.path c.pass.ensures.variable c.pass.ensures.from
+    c.append_gap.new.text c.append.new.self c.in_ok-append_head.ensures c.in_ok-append_gap.ensures
+    c.in_ok-append.ensures.ok c.pass.ensures.lines c.pass.ensures.next c.pass.ensures.at c.pass.ensures.path c.pass.ensures.variable c.pass.ensures.from
