@@ -143,48 +143,60 @@ returns-in-None-clause-goes c k u n l ks node ready rest t names nm =
 
 pub returns-in-Some-Prim-clause-taken : goal.returns-in-Some-Prim-clause-taken
 returns-in-Some-Prim-clause-taken c =
-    leaf_taken c.args.ground.now.interface.now.types c.args.of.0 c.args.progress.now c.number.new.progress c.number.result _ (c.in-Some-Prim.ensures.some ∙ ap (λ d. Some d) c.in-Some-Prim.field-0-is) (λ least. omega arith)
-    c.number.ensures.more
+    let table = c.args.ground.now.interface.now.types in
+    let its = c.in-Some-Prim.ensures.some ∙ ap (λ d. Some d) c.in-Some-Prim.field-0-is in
+    leaf_taken table c.args.of.0 c.args.progress.now c.number.new.progress c.number.result _ its (λ least. omega arith) c.number.ensures.more
 
 pub returns-in-Some-Enum-clause-taken : goal.returns-in-Some-Enum-clause-taken
 returns-in-Some-Enum-clause-taken c =
-    leaf_taken c.args.ground.now.interface.now.types c.args.of.0 c.args.progress.now c.number-in-Some-Enum.new.progress c.number-in-Some-Enum.result _ (c.in-Some-Enum.ensures.some ∙ ap (λ d. Some d) c.in-Some-Enum.field-0-is) (λ least. omega arith)
-    c.number-in-Some-Enum.ensures.more
+    let table = c.args.ground.now.interface.now.types in
+    let its = c.in-Some-Enum.ensures.some ∙ ap (λ d. Some d) c.in-Some-Enum.field-0-is in
+    leaf_taken table c.args.of.0 c.args.progress.now c.number-in-Some-Enum.new.progress c.number-in-Some-Enum.result _ its (λ least. omega arith) c.number-in-Some-Enum.ensures.more
 
 pub returns-in-Some-Text-clause-taken : goal.returns-in-Some-Text-clause-taken
 returns-in-Some-Text-clause-taken c =
-    leaf_taken c.args.ground.now.interface.now.types c.args.of.0 c.args.progress.now c.text.new.progress c.text.result _ (c.in-Some-Text.ensures.some ∙ ap (λ d. Some d) c.in-Some-Text.field-0-is) (λ least. omega arith)
-    c.text.ensures.more
+    let table = c.args.ground.now.interface.now.types in
+    let its = c.in-Some-Text.ensures.some ∙ ap (λ d. Some d) c.in-Some-Text.field-0-is in
+    leaf_taken table c.args.of.0 c.args.progress.now c.text.new.progress c.text.result _ its (λ least. omega arith) c.text.ensures.more
 
 pub returns-in-Some-Context-clause-taken : goal.returns-in-Some-Context-clause-taken
 returns-in-Some-Context-clause-taken c =
-    leaf_taken c.args.ground.now.interface.now.types c.args.of.0 c.args.progress.now c.context.new.progress c.context.result _ (c.in-Some-Context.ensures.some ∙ ap (λ d. Some d) c.in-Some-Context.field-0-is) (λ least. omega arith)
-    c.context.ensures.more
+    let table = c.args.ground.now.interface.now.types in
+    let its = c.in-Some-Context.ensures.some ∙ ap (λ d. Some d) c.in-Some-Context.field-0-is in
+    leaf_taken table c.args.of.0 c.args.progress.now c.context.new.progress c.context.result _ its (λ least. omega arith) c.context.ensures.more
 
 pub returns-in-Some-Union-clause-taken : goal.returns-in-Some-Union-clause-taken
 returns-in-Some-Union-clause-taken c =
-    leaf_taken c.args.ground.now.interface.now.types c.args.of.0 c.args.progress.now c.tagged.new.progress c.tagged.result _ (c.in-Some-Union.ensures.some ∙ ap (λ d. Some d) c.in-Some-Union.field-0-is) (λ least. omega arith)
-    c.tagged.ensures.more
+    let table = c.args.ground.now.interface.now.types in
+    let its = c.in-Some-Union.ensures.some ∙ ap (λ d. Some d) c.in-Some-Union.field-0-is in
+    leaf_taken table c.args.of.0 c.args.progress.now c.tagged.new.progress c.tagged.result _ its (λ least. omega arith) c.tagged.ensures.more
 
 pub returns-in-Some-Pointer-clause-taken : goal.returns-in-Some-Pointer-clause-taken
 returns-in-Some-Pointer-clause-taken c =
-    leaf_taken c.args.ground.now.interface.now.types c.args.of.0 c.args.progress.now c.pointer.new.progress c.pointer.result _ (c.in-Some-Pointer.ensures.some ∙ ap (λ d. Some d) c.in-Some-Pointer.field-0-is) (λ least. omega arith)
-    c.pointer.ensures.more
+    let table = c.args.ground.now.interface.now.types in
+    let its = c.in-Some-Pointer.ensures.some ∙ ap (λ d. Some d) c.in-Some-Pointer.field-0-is in
+    leaf_taken table c.args.of.0 c.args.progress.now c.pointer.new.progress c.pointer.result _ its (λ least. omega arith) c.pointer.ensures.more
 
 pub returns-in-Some-Struct-clause-taken : goal.returns-in-Some-Struct-clause-taken
 returns-in-Some-Struct-clause-taken c =
-    struct_taken c.args.ground.now.interface.now.types c.args.of.0 c.args.progress.now c.structure.new.progress c.structure.result _ (c.in-Some-Struct.ensures.some ∙ ap (λ d. Some d) c.in-Some-Struct.field-0-is) c.structure.ensures.is c.structure.ensures.later
+    let table = c.args.ground.now.interface.now.types in
+    let its = c.in-Some-Struct.ensures.some ∙ ap (λ d. Some d) c.in-Some-Struct.field-0-is in
+    struct_taken table c.args.of.0 c.args.progress.now c.structure.new.progress c.structure.result _ its c.structure.ensures.is c.structure.ensures.later
 
 pub returns-in-Some-Array-clause-taken : goal.returns-in-Some-Array-clause-taken
 returns-in-Some-Array-clause-taken c =
     let i = c.args.ground.now.interface.now in
-    array_taken c.args.ground.now.interface.now.types c.args.of.0 c.args.progress.now c.array.new.progress c.array.result _ _ _ (c.in-Some-Array.ensures.some ∙ ap (λ d. Some d) c.in-Some-Array.field-0-is) c.args.max _ c.unwrap_or-max.ensures
+    let its = c.in-Some-Array.ensures.some ∙ ap (λ d. Some d) c.in-Some-Array.field-0-is in
+    array_taken i.types c.args.of.0 c.args.progress.now c.array.new.progress c.array.result _ _ _ its c.args.max _ c.unwrap_or-max.ensures
     (λ b is. some_bound i.types i.operations i.legal c.args.of.0 _ b _ is) c.array.ensures.fixed c.array.ensures.more
 
 pub returns-in-Some-Pipe-clause-taken : goal.returns-in-Some-Pipe-clause-taken
 returns-in-Some-Pipe-clause-taken c =
-    none_taken c.args.ground.now.interface.now.types c.args.of.0 c.args.progress.now c.args.progress.now (Ok shape.Leaf) _ (c.in-Some-Pipe.ensures.some ∙ ap (λ d. Some d) c.in-Some-Pipe.field-0-is) (λ least. refl) (le_refl c.args.progress.now.next)
+    let its = c.in-Some-Pipe.ensures.some ∙ ap (λ d. Some d) c.in-Some-Pipe.field-0-is in
+    let p = c.args.progress.now in
+    none_taken c.args.ground.now.interface.now.types c.args.of.0 p p (Ok shape.Leaf) _ its (λ least. refl) (le_refl p.next)
 
 pub returns-in-None-clause-taken : goal.returns-in-None-clause-taken
 returns-in-None-clause-taken c =
-    none_taken c.args.ground.now.interface.now.types c.args.of.0 c.args.progress.now c.args.progress.now (Ok shape.Leaf) None c.in-None.ensures.none (λ least. refl) (le_refl c.args.progress.now.next)
+    let p = c.args.progress.now in
+    none_taken c.args.ground.now.interface.now.types c.args.of.0 p p (Ok shape.Leaf) None c.in-None.ensures.none (λ least. refl) (le_refl p.next)
