@@ -1,8 +1,9 @@
 -- What explains a stream: a line for each of its items, which says where the item is, what it is, which node of which value it belongs to,
 -- and what it holds.
--- `w` is a setting, `g` a graph, `h` a home, `n` a node's number, `l` a node's label, `x` an item, `z` the number that an item holds, `octets` are those
--- of the stream, `os` some of them.
-use Rattle.std.specs.Prelude.{ℕ, ℤ, ◌==◌, Bool, true, false, not, nat_eq, List, [], ◌∷◌, ◌++◌, drop, filter, flat_map, length, take, Option, None, Some, codes, decimal}
+-- `w` is a setting, `g` a graph, `h` a home, `n` a node's number, `l` a node's label, `x` an item, `z` the number that an item holds, `octets` are
+-- those of the stream, `os` some of them.
+use Rattle.std.specs.Prelude.{ℕ, ℤ, ◌==◌, Bool, true, false, not, nat_eq, List, [], ◌∷◌, ◌++◌, drop, filter, flat_map, length, take}
+use Rattle.std.specs.Prelude.{Option, None, Some, codes, decimal}
 use Rattle.std.specs.Fmt.{signed_decimal}
 use Rattle.std.specs.List.{list_all, slice_get}
 use Rattle.nd_value.specs.declared.value.Graph.{Graph}
@@ -89,8 +90,8 @@ explanation w g xs = flat_map (item_line w g) xs
 
 -- ## Gaps
 
--- The octets of a gap may have any values (C706, 14.2.2). These lines are the same, but a gap whose octets are not all zero shows them, in hexadecimal
--- digits.
+-- The octets of a gap may have any values (C706, 14.2.2). These lines are the same, but a gap whose octets are not all zero shows them, in
+-- hexadecimal digits.
 
 abbrev pub its_octets : List ℕ → Item → List ℕ
 its_octets octets x = take x.len (drop x.at octets)

@@ -1,7 +1,8 @@
 -- Fewer nodes are left to a walk after each node, and the items that it takes are enough.
 -- `f` and `least` give a number for each type, `d` is a type, `l` a label, `ks` are its children, `p` and `p1` how far a walk came before and after the
 -- items of a node, `r` is what passing them gives.
-use Rattle.std.proofs.Common.{◌≡◌, ◌∙◌, ℕ, zero, suc, ◌+◌, ◌*◌, ◌^◌, ◌<◌, ◌≤◌, ℤ, Bool, true, false, List, [], ◌∷◌, ◌++◌, drop, length, reverse, replicate, map, Option, Some, None, refl, sym, ap, ap₂, subst, arith}
+use Rattle.std.proofs.Common.{◌≡◌, ◌∙◌, ℕ, zero, suc, ◌+◌, ◌*◌, ◌^◌, ◌<◌, ◌≤◌, ℤ, Bool, true, false, List, []}
+use Rattle.std.proofs.Common.{◌∷◌, ◌++◌, drop, length, reverse, replicate, map, Option, Some, None, refl, sym, ap, ap₂, subst, arith}
 use Rattle.std.specs.Prelude.{Err, IfOk, Ok, Result, not, unwrap_or, ◌&&◌}
 use Rattle.std.specs.List.{AllByRecursion, list_all}
 use Rattle.std.proofs.lemmas.Result.{IfOk-weaker}
