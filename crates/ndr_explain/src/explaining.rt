@@ -9,8 +9,8 @@ ghost use Rattle.nd_value.specs.Tree.{Label};
 ghost use Rattle.nd_flat.specs.FlatForm.{flat_seen};
 ghost use Rattle.nd_value.specs.declared.value.Graph.{Graph};
 ghost use Rattle.text_grammar.specs.Paths.{home_name as home_words};
-ghost use Rattle.ndr_explain.specs.Explained.{explanation, explanation_over, line_over, item_head, node_shown, value_shown, string_shown, context_shown};
-ghost use Rattle.ndr_explain.specs.Explained.{home_paths, kind_word, path_in};
+ghost use Rattle.ndr_explain.specs.Explained.{explanation, explanation_over, line_over, item_head, node_shown, value_shown, string_shown};
+ghost use Rattle.ndr_explain.specs.Explained.{context_shown, home_paths, kind_word, path_in};
 ghost use Rattle.ndr_explain.specs.Cursors.{IsSettingOf, IsIn, IsLast, IsFound, found_label};
 
 use crate::cursor::append_path;
