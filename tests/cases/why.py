@@ -18,6 +18,12 @@ def of(*words):
     return Case("why: " + (", ".join(words) or f"{len(words)} words"), ["why", *words], out=out.encode(), notes=notes.encode(), status=status)
 
 
+def helped(*words):
+    """The case of `help` with words, which is `why` of all of them."""
+    status, out, notes = why.why(["help", *words])
+    return Case("why: by help, " + (", ".join(words) or "no words"), ["help", *words], out=out.encode(), notes=notes.encode(), status=status)
+
+
 def example(name, at, part):
     """The case of an example: its lines are run in a folder of their own."""
     text = "\n".join(part.commands)
@@ -115,6 +121,15 @@ def without_entry():
     return [f"why has no entry of {word}" for word in sorted(wanted - set(ENTRIES))]
 
 
+def unlike_help():
+    """Where the forms of commands that `--help` prints are not those of the entries of `help`."""
+    text = page("crates/dceidl/src/lib.rt").split('pub const HELP: &str = "\\\n')[1]
+    forms = [line.split(" ", 1)[1] for line in re.findall(r"^(?:usage: |       )(dceidl .*)$", text.split("\n\n")[0], flags=re.MULTILINE)]
+    wanted = [form for form in forms if not form.startswith("--")]
+    found = [part.forms[0].split(" ", 1)[1] for name, of_name in PARTS.items() if name.startswith("help") for part in of_name]
+    return [f"--help and the entries differ in {form}" for form in sorted(set(wanted) ^ {form.replace("help COMMAND", "help [COMMAND]") for form in found})]
+
+
 def unlike():
     """The entries that have not the form of one."""
     for name, of_name in PARTS.items():
@@ -131,7 +146,12 @@ CASES = [
     Check("why: docs/IDL.md has the words of the entries", lambda: list(of_idl())),
     Check("why: the tables of compat, docs/NDR.md and docs/TEXT.md have the words of the entries", lambda: list(of_pages())),
     Check("why: README.md has the words of the entries", lambda: list(of_readme())),
+    Check("why: --help has the forms of the entries of help", unlike_help),
     of(),
+    *(helped(*name.split()[1:]) for name in ENTRIES if name.startswith("help")),
+    helped("zzz"),
+    helped("wrap", "x"),
+    helped(""),
     *(of(*name.split()) for name in ENTRIES),
     of("Rule 30"),
     of("words refused"),

@@ -22,7 +22,7 @@ CASES = [
     Case("words: --help reads no input", ["--help"], input=CLOSED, out=Begins(b"usage: dceidl")),
     Command("words: --help names each command", "bin/dceidl --help | grep -E '^(usage:|      ) dceidl ' | sed 's/.*dceidl //; s/ .*//'",
             lines("compile", "plan", "decode", "explain", "trace", "drain", "encode", "migrate", "call", "wrap", "compat", "windows", "session", "sample", "why",
-                  "--help", "--version")),
+                  "help", "--help", "--version")),
     Command("words: --help names each status", "bin/dceidl --help | sed -n 's/^\\([0-9]\\)  .*/\\1/p'", lines(*"0123456789")),
     Command("words: --help has lines of 80 columns", "bin/dceidl --help | awk 'length > 80'", b""),
     Case("words: --version", ["--version"], out=lines("dceidl 0.1.0")),

@@ -95,12 +95,18 @@ idl FILE:LINE:COLUMN: BadNumber
 Syntax
 idl FILE:LINE:COLUMN: Syntax
   Unexpected token, or unexpected end of file: no file of the language goes on
-  there.
+  there. What is before the place is right, and could go on otherwise. Often
+  this is at the place: a word in brackets that is no attribute here; a second
+  `[`, where one list with commas is due; `)`, `,` or `;`, where a name is due
+  after a type (`int` and `unsigned` alone are none); an operator in
+  `size_is(..)`, where a name is due; `const` or `signed` before a type; a
+  quote in `uuid(..)`; `import` after a declaration; `typedef` where the file
+  must begin with `[`.
     $ echo '[local] interface t { void f([in] long); }' > t.idl
     $ dceidl compile t.idl -
     idl t.idl:1:39: Syntax
   Compare the line with docs/BRINGING-YOUR-IDL.md, which lists what other
-  compilers accept.
+  compilers accept, and with the grammar in docs/IDL.md.
 \x0c\
 Deep
 idl FILE:LINE:COLUMN: Deep
@@ -550,10 +556,10 @@ idl FILE:LINE:COLUMN: Rule 32
 Rule 33
 idl FILE:LINE:COLUMN: Rule 33
   `string`: it is only on an array of `char` or `byte` or on a pointer to
-  `char` or `byte`, without `length_is`, `first_is` or `last_is`. On a text,
-  and on a pointer to a conformant text, it changes nothing; a pointer to an
-  array or to a text with a fixed bound breaks the rule. An empty arm has no
-  `string`.
+  `char` or `byte`, without `length_is`, `first_is`, `last_is` or `any_length`.
+  On a text, and on a pointer to a conformant text, it changes nothing; a
+  pointer to an array or to a text with a fixed bound breaks the rule. An empty
+  arm has no `string`.
     $ echo '[local] interface t { typedef[string]long a[2]; }' > t.idl
     $ dceidl compile t.idl -
     idl t.idl:1:23: Rule 33
@@ -563,10 +569,10 @@ idl FILE:LINE:COLUMN: Rule 33
 \x0c\
 Rule 34
 idl FILE:LINE:COLUMN: Rule 34
-  `size_is`, `max_is`: they are only on a conformant array or text, or on a
-  pointer that is not a context handle, and not both on one. A member or
-  parameter whose own type is a conformant array has one of them; a conformant
-  text needs neither.
+  `size_is`, `max_is`, `any_size`: they are only on a conformant array or text,
+  or on a pointer that is not a context handle, and no two of them on one. A
+  member or parameter whose own type is a conformant array has one of them; a
+  conformant text needs neither.
     $ echo '[local] interface t { void f([in]long a[*]); }' > t.idl
     $ dceidl compile t.idl -
     idl t.idl:1:30: Rule 34
@@ -576,9 +582,10 @@ idl FILE:LINE:COLUMN: Rule 34
 \x0c\
 Rule 35
 idl FILE:LINE:COLUMN: Rule 35
-  `length_is`, `first_is`, `last_is`: they are only on an array that is not a
-  text, or on a pointer with `size_is` or `max_is` that does not point to a
-  text; `length_is` and `last_is` are not both there.
+  `length_is`, `first_is`, `last_is`, `any_length`: they are only on an array
+  that is not a text, or on a pointer with `size_is`, `max_is` or `any_size`
+  that does not point to a text; `length_is` and `last_is` are not both there,
+  and `any_length` is with none of the others.
     $ echo '[local] interface t { struct s{long n;[length_is(n)]long a;}; }' > t.idl
     $ dceidl compile t.idl -
     idl t.idl:1:39: Rule 35
@@ -986,7 +993,9 @@ refused: text LINE:COLUMN: BadToken
 OtherName
 refused: text LINE:COLUMN: OtherName
   There is a word, but it is not the expected name of the operation, the side,
-  the root or the member.
+  the root or the member. Due are, in this order: OP and SIDE of the command;
+  the parameters of the side as they are declared, and for `out` then `return`;
+  within braces the members as they are declared.
     $ echo '[local] interface t { void f([in] long a); }' > t.idl
     $ printf 'values 2 op g in a = 1' | dceidl migrate t.idl - f in
     refused: text 1:13: OtherName
@@ -1122,10 +1131,13 @@ words refused
 words refused
   The command line is not valid. A word is missing, one too many, or one of
   `in`, `out`, `little`, `big`, `label`, `given`, `-` or a number is written
-  otherwise; numbers are plain decimal digits. SIDE of `given` is `out`.
-    $ dceidl decode t.idl - f in
+  otherwise; numbers are plain decimal digits. SIDE of `given` is `out`. CHUNK
+  is 1 to 16777216, CALL and SEED 0 to 4294967295, MAX 1024 to 65535, COUNT 1
+  to 1000000.
+    $ dceidl wrap t.idl - f in little 1 256
     words refused
-  `dceidl --help` shows the form of each command. Status 2.
+  `dceidl help wrap` shows which words `wrap` takes, and so for each command.
+  Status 2.
 \x0c\
 read fault
 read fault
@@ -1233,6 +1245,21 @@ refused: script LINE
   Write CLIENT as a decimal number, UUID with its hyphens, and one space
   between words. Status 1.
 \x0c\
+gap
+PLACE LENGTH gap x\"OCTETS\"
+  The octets of a gap are not all zero; `trace` shows them. They mean nothing,
+  and any are accepted, but most programs write zeros. So where a captured
+  stream has such a gap, a type may be too narrow, as a `short` for a `long`, or
+  a parameter may be left out, whose octets are then taken for a gap.
+    $ echo '[local] interface t { void f([in] short a, [in] long b); }' > t.idl
+    $ printf '\\1\\0\\2\\3\\4\\0\\0\\0' | dceidl trace t.idl - f in little
+    0 2 num a 1
+    2 2 gap x\"0203\"
+    4 4 num b 4
+    gaps that are not zero: 1
+  Compare the types before the gap with the specification of the interface.
+  docs/FROM-A-CAPTURE.md shows such mistakes.
+\x0c\
 status 0
 (no line)
   Success: standard output has all that was asked for.
@@ -1248,7 +1275,7 @@ refused: ..
 status 2
 words refused
   The command line is not valid.
-  `dceidl --help` shows the form of each command.
+  `dceidl help COMMAND` shows which words a command takes.
 \x0c\
 status 3
 read fault
@@ -1291,5 +1318,135 @@ status 70
 (the lines of the build)
   bin/dceidl could not build the program, or bin/try could not make it.
   The lines above name a log. Try `rt version`, and look at the free memory.
+\x0c\
+help
+dceidl help COMMAND
+  Writes which words a command takes, and what they may be. The commands are
+  compile, plan, decode, explain, trace, drain, encode, migrate, call, wrap,
+  compat, windows, session, sample and why. `dceidl --help` has all on one page.
+\x0c\
+help compile
+dceidl compile IDL ACF
+  Checks the interface file IDL and its imports, and writes the listing of the
+  interface (docs/LISTING.md). ACF is an attribute configuration file, or `-`.
+    $ echo '[local] interface t { void f([in] long x); }' > t.idl
+    $ dceidl compile t.idl -
+    interface t version 0.0 uuid -
+    op 0 f
+    in x 7
+\x0c\
+help plan
+dceidl plan IDL ACF
+  Checks the interface file IDL and its imports, and writes the plan by which
+  its octets are read (docs/PLAN.md). ACF is an attribute configuration file,
+  or `-`.
+\x0c\
+help decode
+dceidl decode IDL ACF OP SIDE ORDER [given TEXT]
+  Reads the octets of operation OP on standard input, and writes their values
+  as text (docs/TEXT.md). ACF is an attribute configuration file, or `-`. SIDE
+  is `in` for a request and `out` for a response. ORDER is `little`, `big`, or
+  `label` if a format label is before the octets. With `given`, and SIDE `out`,
+  TEXT is a file with the text of the request.
+    $ echo '[local] interface t { void f([in] long x); }' > t.idl
+    $ printf '\\1\\0\\0\\0' | dceidl decode t.idl - f in little
+    values 2
+    op f in
+    x = 1
+\x0c\
+help explain
+dceidl explain IDL ACF OP SIDE ORDER [given TEXT]
+  Reads octets as `decode` does, and writes a line for each item: its place, its
+  length, what it is, its path and its value. `dceidl help decode` says what the
+  words may be.
+\x0c\
+help trace
+dceidl trace IDL ACF OP SIDE ORDER [given TEXT]
+  Does what `explain` does; of octets that are refused it writes the items
+  before the fault, and then where in the values it is. `dceidl help decode`
+  says what the words may be.
+\x0c\
+help drain
+dceidl drain IDL ACF OP SIDE ORDER [given TEXT]
+  Reads octets as `decode` does, and writes the elements of their pipes to the
+  files pipe0.out to pipe7.out, a line each. `dceidl help decode` says what the
+  words may be.
+\x0c\
+help encode
+dceidl encode IDL ACF OP SIDE ORDER CHUNK [given TEXT]
+  Reads a text as `decode` writes it on standard input, and writes the octets of
+  its values. ACF is an attribute configuration file, or `-`. SIDE is `in` for a
+  request and `out` for a response. ORDER is `little`, `big`, or `label`. CHUNK,
+  1 to 16777216, is the number of elements in a chunk of a pipe; write 1 if the
+  operation has none. With `given`, and SIDE `out`, TEXT is a file with the text
+  of the request.
+    $ echo '[local] interface t { void f([in] long x); }' > t.idl
+    $ echo 'values 2 op f in x = 1' | dceidl encode t.idl - f in little 1 | od -An -tx1
+     01 00 00 00
+\x0c\
+help migrate
+dceidl migrate IDL ACF OP SIDE
+  Reads a text in version 1 or 2 on standard input, and writes it in version 2.
+  ACF is an attribute configuration file, or `-`. SIDE is `in` for a request and
+  `out` for a response.
+\x0c\
+help call
+dceidl call IDL ACF OP
+  Reads the PDUs of a request, if OP is `-`, or of a response to operation OP on
+  standard input, and writes the call id and the values. ACF is an attribute
+  configuration file, or `-`.
+\x0c\
+help wrap
+dceidl wrap IDL ACF OP SIDE ORDER CALL MAX
+  Reads a text as `decode` writes it on standard input, and writes the PDUs of a
+  request (SIDE `in`) or response (`out`). ACF is an attribute configuration
+  file, or `-`. ORDER is `little` or `big`, CALL the call id, 0 to 4294967295,
+  and MAX the most octets of a PDU, 1024 to 65535.
+    $ echo '[local] interface t { void f([in] long x); }' > t.idl
+    $ echo 'values 2 op f in x = 1' | dceidl wrap t.idl - f in little 7 1024 | od -An -tx1
+     05 00 00 03 10 00 00 00 1c 00 00 00 07 00 00 00
+     04 00 00 00 00 00 00 00 01 00 00 00
+\x0c\
+help compat
+dceidl compat OLD OLDACF NEW NEWACF [why]
+  Compares two versions of an interface, the files OLD and NEW, and writes how
+  many operations OLD has, if each of them has the same octets in NEW. OLDACF
+  and NEWACF are attribute configuration files, or `-`. With `why` it also
+  writes the first place at which an operation differs.
+\x0c\
+help windows
+dceidl windows COMMAND ..
+  Does one of the commands above `session` in `dceidl --help`, with its
+  interface files in the windows language (docs/WINDOWS.md).
+    $ echo '[local] interface t { void f([in, any_size] long x[*]); }' > t.idl
+    $ printf '\\1\\0\\0\\0\\7\\0\\0\\0' | dceidl windows decode t.idl - f in little
+    values 2
+    op f in
+    x = [7]
+\x0c\
+help session
+dceidl session
+  Reads a script of context handles on standard input (docs/SESSION.md): lines
+  `open CLIENT UUID`, `use UUID TEXT`, `close UUID` and `down CLIENT`. CLIENT is
+  a number, 0 to 4294967295.
+    $ printf 'open 1 00112233-4455-6677-8899-aabbccddeeff\\ndown 1\\n' | dceidl session
+    ok
+    ended 1
+\x0c\
+help sample
+dceidl sample SEED COUNT
+  Makes a graph of COUNT cells, 1 to 1000000, from SEED, 0 to 4294967295,
+  encodes and decodes it, and writes a summary. `dceidl` alone does the same as
+  `dceidl sample 1 2`.
+    $ dceidl sample 0 1
+    cells 1
+    octets 16
+    sum 1
+    same yes
+\x0c\
+help why
+dceidl why [WORD ..]
+  Writes what a word of an error's line means, as `dceidl why Rule 30`. Without
+  words it lists all.
 \x0c\
 ";

@@ -41,6 +41,7 @@ usage: dceidl compile IDL ACF
        dceidl session
        dceidl sample SEED COUNT
        dceidl why [WORD ..]
+       dceidl help [COMMAND]
        dceidl --help
        dceidl --version
 
@@ -85,6 +86,7 @@ sample   makes a graph of COUNT cells from SEED, encodes and decodes it, and
 why      writes what a word of an error's line means, with an example and what
          to do, as for `why Rule 30` or `why status 5`. Without words it lists
          all.
+help     writes which words COMMAND takes, and what they may be.
 
 IDL      the path of a file of IDL
 ACF      the path of an attribute configuration file, or `-` for none
