@@ -1133,7 +1133,7 @@ words refused
   `in`, `out`, `little`, `big`, `label`, `given`, `-` or a number is written
   otherwise; numbers are plain decimal digits. SIDE of `given` is `out`. CHUNK
   is 1 to 16777216, CALL and SEED 0 to 4294967295, MAX 1024 to 65535, COUNT 1
-  to 1000000.
+  to 1000000. `windows` is only before a command that names interface files.
     $ dceidl wrap t.idl - f in little 1 256
     words refused
   `dceidl help wrap` shows which words `wrap` takes, and so for each command.
