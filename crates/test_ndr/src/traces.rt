@@ -38,6 +38,13 @@ const ROWS: &[Row] = &[
         lines: b"0 4 max @1 2\n4 2 num @1.n 2\n6 2 gap\n8 4 num @1.a[0] 5\n",
         path: b"@1.a[1]",
     },
+    // A gap before the fault is not zero.
+    Row {
+        op: PUT,
+        octets: b"\x02\0\0\0\x02\0\0\xa1\x05\0\0\0\x06\0",
+        lines: b"0 4 max @1 2\n4 2 num @1.n 2\n6 2 gap x\"00a1\"\n8 4 num @1.a[0] 5\n",
+        path: b"@1.a[1]",
+    },
     // Octets end in a gap.
     Row {
         op: PUT,
