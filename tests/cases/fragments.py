@@ -100,6 +100,45 @@ WRAPPED = [
     wrap("a text that is refused", "add in little 7 1024", b"values 3\n", status=1, notes=lines("refused: text 1:8: Expected")),
 ]
 
+# what does not fit into one fragment, and what does not fit into one chunk of a pipe
+CHUNK = 65_536
+LARGE = interface("void put([in] unsigned long n, [in, size_is(n)] byte data[*]);", "typedef pipe short shorts; void feed([in] shorts d);")
+
+
+def fragments(stub, most, **fields):
+    """The fragments of stub data, each but the last of so many octets; no stub data are one fragment."""
+    parts = [stub[at:at + most - 24] for at in range(0, len(stub), most - 24)] or [stub]
+    last = len(parts) - 1
+    return b"".join(pdu(part, flags=(at == 0) + 2 * (at == last), hint=len(stub), **fields) for at, part in enumerate(parts))
+
+
+def large(name, words, text, stub, most, **fields):
+    """A case that writes the fragments of values that are too large for one, and one that reads them back."""
+    made = fragments(stub, most, **fields)
+    return [Case(f"wrap: {name}", ["wrap", "t.idl", "-", *words.split(), str(most)], {"t.idl": LARGE}, text, out=made),
+            Case(f"call: {name}", ["call", "t.idl", "-", "-"], {"t.idl": LARGE}, made, out=lines("call 7") + text)]
+
+
+def put(count, most):
+    """Stub data with so many octets in an array, which two numbers come before: how many they are, and how many there may be."""
+    stub = count.to_bytes(4, "little") * 2 + bytes(at % 251 for at in range(count))
+    return large(f"{len(stub):,} octets of stub data, at most {most:,} in a fragment", "put in little 7",
+                 lines("values 2", "op put in", f"n = {count}", f'data = x"{stub[8:].hex()}"'), stub, most)
+
+
+def feed(count, order):
+    """A pipe with so many elements: chunks of at most 65,536, each with its count, and then a count of 0. Two octets come before a count after an odd chunk."""
+    stub = b""
+    for first in [*range(0, count, CHUNK), count]:
+        elements = range(first, min(first + CHUNK, count))
+        stub += bytes(-len(stub) % 4) + len(elements).to_bytes(4, order) + b"".join((number % 1_000).to_bytes(2, order) for number in elements)
+    return large(f"a pipe of {count:,} elements, {order}", f"feed in {order} 7",
+                 lines("values 2", "op feed in", f"d = [{', '.join(str(number % 1_000) for number in range(count))}]"), stub, 65_535, number=1, order=order)
+
+
+LARGE_ONES = [case for cases in (put(992, 1_024), put(993, 1_024), put(2_993, 1_025), put(65_503, 65_535), put(65_504, 65_535),
+                                 feed(CHUNK, "little"), feed(CHUNK + 1, "little"), feed(2 * CHUNK + 3, "big")) for case in cases]
+
 LIST = lines("values 2", "op list in", "path = @1", '@1 = 2:"/"')
 LISTED = lines("values 2", "op list out", "first = @1", "return = 2", "@1 = {kind = 5, detail = 5:@2, name = @3, next = @4}", '@2 = 5:"here"', '@3 = 4:"etc"',
                "@4 = {kind = 0, detail = 0:1024, name = @5, next = null}", '@5 = 2:"a"')
@@ -134,4 +173,4 @@ LONG = [Late("call: as many stub data as a stream may have",
         Late("call: one octet of stub data too many",
              lambda: refused("one octet of stub data too many", long_request(1), WHOLE_ONES * 65_535 + 8, "StubLong"))]
 
-CASES = READ + REFUSED + WRAPPED + OUTSIDE + CUT + LONG
+CASES = READ + REFUSED + WRAPPED + LARGE_ONES + OUTSIDE + CUT + LONG

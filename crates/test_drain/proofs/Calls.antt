@@ -6,6 +6,9 @@ use Rattle.nd_base.specs.Over.{SourceOver}
 use Rattle.nd_types.specs.declared.interface.Interface.{Interface}
 use Rattle.nd_types.specs.declared.types.Operation.{Operation}
 use Rattle.nd_types.specs.declared.types.Side.{Side}
+use Rattle.nd_types.specs.declared.types.Side.TheVariants.{In, Out}
+use Rattle.nd_value.specs.Fitting.{Fitting}
+use Rattle.nd_value.specs.Request.{IsRequest}
 use Rattle.nd_value.specs.Setting.{Setting}
 use Rattle.nd_value.specs.Tree.{Tree}
 use Rattle.nd_lemmas.proofs.Lists.{item_at}
@@ -23,6 +26,15 @@ pub begins : (tie : Interface) (op : ℕ) (side : Side) (order : Order) (i : Int
 begins tie op side order i known begun =
     let (o, there) = item_at tie.operations op known in
     subst (λ t. i.op < length t.operations) (sym (begun o there).interface_is) (subst (λ n. n < length tie.operations) (sym (begun o there).op_is) known)
+
+-- a request of the operation whose response is read
+pub asks : (tie : Interface) (op : ℕ) (order : Order) (i : IntakeSeen) → op < length tie.operations
+    → ((o : Operation) → slice_get tie.operations op ≡ Some o → HasBegun tie op o Out order i) → (f : Fitting) → f.interface ≡ tie → f.op ≡ op → f.side ≡ In
+    → IsRequest i.interface i.op i.side f
+asks tie op order i known begun f of of_op of_side =
+    let (o, there) = item_at tie.operations op known in
+    let h = begun o there in
+    record { interface = of ∙ sym h.interface_is; op = of_op ∙ sym h.op_is; side = of_side; judged = h.side_is }
 
 pub after_head : (w : Operation → Setting) (s : SourceOver) (t : DecodingSeen) (i now : IntakeSeen) → i.op < length i.interface.operations
     → ((o : Operation) → slice_get i.interface.operations i.op ≡ Some o → HasHead (w o) s t i now) → now.phase ≡ Reading

@@ -64,7 +64,7 @@ fn drained_by(
 }
 
 // An end in memory.
-fn mem_end(alloc: Global) -> Result<Box<MemEnd>, Memory>
+pub(crate) fn mem_end(alloc: Global) -> Result<Box<MemEnd>, Memory>
     ensures { IfOk result (λ b. (⟦<MemEnd as PipeEnd>⟧.seen b.value).finished ≡ false) }
 {
     match Box::new(alloc, MemEnd::new(alloc, 100, &[])?) {
@@ -75,7 +75,7 @@ fn mem_end(alloc: Global) -> Result<Box<MemEnd>, Memory>
 
 // One more end that is not finished.
 #[tactic(auto, using(ndr_pipe::proofs::Open::all_open))]
-fn add(ends: &mut PipeEnds, end: Box<dyn PipeEnd>) -> Result<(), Memory>
+pub(crate) fn add(ends: &mut PipeEnds, end: Box<dyn PipeEnd>) -> Result<(), Memory>
     requires all { AreOpen (ends_seen seen ends.old) }
     requires one { (seen end).finished ≡ false }
     ensures { IfOk result (λ _. AreOpen (ends_seen seen ends.new)) }
@@ -87,7 +87,7 @@ fn add(ends: &mut PipeEnds, end: Box<dyn PipeEnd>) -> Result<(), Memory>
 }
 
 // Whether the first end has taken these octets, and is finished or not.
-fn has_taken(ends: &PipeEnds, octets: &[u8], finished: bool) -> bool {
+pub(crate) fn has_taken(ends: &PipeEnds, octets: &[u8], finished: bool) -> bool {
     match ends.get(0) {
         Some(end) => end.finished() == finished && end.shown() == Some(octets),
         None => false,

@@ -7,3 +7,5 @@ mod drain;
 mod intake;
 #[cfg(test)]
 mod interface;
+#[cfg(test)]
+mod responses;

@@ -210,6 +210,22 @@ data = x\"abcd\"
     ..COMPILE
 };
 
+// The same two fragments, of which the second has another call id: nothing after its first 16 octets is read.
+pub(crate) const CALL_REFUSED: Command = Command {
+    name: "call of fragments that are refused",
+    input: b"\x05\0\0\x01\x10\0\0\0\x40\0\0\0\x07\0\0\0\x5a\0\0\0\0\0\x01\0\
+\x01\0\0\0\
+\x04\0\x04\0\0\0\0\0\x04\0\0\0etc\0\x02\0\0\0\x03\0\0\0\
+\x04\0\x04\0\0\0\0\0\x02\0\0\0\
+\x05\0\0\x02\x10\0\0\0\x4a\0\0\0\x08\0\0\0\x5a\0\0\0\0\0\x01\0\
+/\0\0\0\x02\0\0\0\0\0\0\0",
+    left: 20,
+    status: 1,
+    out: b"",
+    notes: b"refused: pdu at 76: OtherCall\n",
+    ..CALL_REQUEST
+};
+
 // The same values as the stub data of a request.
 pub(crate) const WRAP: Command = Command {
     name: "wrap",

@@ -1,8 +1,8 @@
 // Each call fails in turn, until a run makes no such call.
 use crate::commands::{
-    CALL_REQUEST, COMPILE, Call, Command, DECODE, DECODE_CUT, DECODE_RESPONSE, DRAIN, DRAIN_CUT,
-    DRAIN_RESPONSE, DRAIN_TRAILING, DRAIN_TWO, ENCODE, ENCODE_REFUSED, ENCODE_RESPONSE, EXPLAIN,
-    EXPLAIN_RESPONSE, NO_COMMAND, NO_WORDS, WRAP,
+    CALL_REFUSED, CALL_REQUEST, COMPILE, Call, Command, DECODE, DECODE_CUT, DECODE_RESPONSE, DRAIN,
+    DRAIN_CUT, DRAIN_RESPONSE, DRAIN_TRAILING, DRAIN_TWO, ENCODE, ENCODE_REFUSED, ENCODE_RESPONSE,
+    EXPLAIN, EXPLAIN_RESPONSE, NO_COMMAND, NO_WORDS, WRAP,
 };
 use crate::runs::{
     AMPLE, Failing, NONE, Ran, call_of, call_past, calls_by, is_finished, lines_of, run_command,
@@ -16,7 +16,7 @@ use std::process::Abort;
 const MOST: u32 = 200;
 
 // How many commands there are.
-const COMMANDS: u32 = 18;
+const COMMANDS: u32 = 19;
 
 // A command by its number.
 fn command(number: u32) -> Command {
@@ -36,8 +36,9 @@ fn command(number: u32) -> Command {
         12 => EXPLAIN_RESPONSE,
         13 => DRAIN_RESPONSE,
         14 => CALL_REQUEST,
-        15 => WRAP,
-        16 => NO_COMMAND,
+        15 => CALL_REFUSED,
+        16 => WRAP,
+        17 => NO_COMMAND,
         _ => NO_WORDS,
     }
 }
@@ -511,6 +512,17 @@ fn each_fetch_of_a_response_fails(rt: HostRuntime) {
     fetches_fail(&rt, rt.alloc(), &DECODE_RESPONSE);
     fetches_fail(&rt, rt.alloc(), &EXPLAIN_RESPONSE);
     fetches_fail(&rt, rt.alloc(), &DRAIN_RESPONSE);
+}
+
+#[test]
+fn each_fetch_of_a_call_fails(rt: HostRuntime) {
+    fetches_fail(&rt, rt.alloc(), &CALL_REQUEST);
+    fetches_fail(&rt, rt.alloc(), &CALL_REFUSED);
+}
+
+#[test]
+fn each_fetch_of_a_wrapping_fails(rt: HostRuntime) {
+    fetches_fail(&rt, rt.alloc(), &WRAP);
 }
 
 #[test]

@@ -11,6 +11,8 @@ mod plans;
 #[cfg(test)]
 mod referents;
 #[cfg(test)]
+mod responses;
+#[cfg(test)]
 mod tests;
 #[cfg(test)]
 mod trace_interface;

@@ -1,6 +1,7 @@
-// The alignments of the basic types, and the plan of an interface without operations.
+// The alignments of the basic types, and the plans of an interface without operations and of one with an enumerated type.
 use crate::interface::interface;
-use nd_types::TypeId;
+use nd_types::{Side, TypeId};
+use ndr_code::{EnumList, PlanLine};
 use ndr_plan::{align_of, listing, make};
 use std::test::Fail;
 
@@ -32,5 +33,46 @@ fn basic_types_are_planned(rt: HostRuntime) -> Result<(), Fail> {
     assert_eq!(rt; plan.code.len(), 33);
     let text = listing(rt.alloc(), &plan)?;
     assert_eq!(rt; text.as_slice(), BASIC);
+    Ok(())
+}
+
+const ENUMS: &[u8] = b"[local] interface t { typedef enum { A, B = 4 } e; void f([in] e x); }";
+
+// Whether a line is where the run of a root of this name begins, in the request of the first operation.
+fn is_entry(line: Option<&PlanLine>, name: &[u8]) -> bool {
+    match line {
+        Some(
+            PlanLine::Entry {
+                op,
+                side,
+                name: found,
+                ..
+            },
+        ) => *op == 0 && *side == Side::In && found.as_slice() == name,
+        _ => false,
+    }
+}
+
+// Whether a list has the values of the first type of the interface's own, 0 and 4.
+fn has_values(list: Option<&EnumList>) -> bool {
+    match list {
+        Some(list) => {
+            list.of == TypeId(12)
+                && list.values.len() == 2
+                && list.values.get(0) == Some(&0)
+                && list.values.get(1) == Some(&4)
+        }
+        None => false,
+    }
+}
+
+#[test]
+fn lists_of_a_plan_have_items(rt: HostRuntime) -> Result<(), Fail> {
+    let interface = interface(rt.alloc(), ENUMS)?;
+    let plan = make(rt.alloc(), &interface)?;
+    assert!(rt; is_entry(plan.entries.get(0), b"x"));
+    assert!(rt; plan.entries.get(plan.entries.len()).is_none());
+    assert!(rt; has_values(plan.values.get(0)));
+    assert!(rt; plan.values.get(1).is_none());
     Ok(())
 }
