@@ -273,8 +273,8 @@ pub ends_first : {E : Type 0} (old new : Interface) (s : Trail) (f : Finding) (e
     → ((base : ℕ) → IsEnd old new f.op f.part base s e → IsEndInOrder base s.origins e → IfOk r (IsDifferenceAt old new f.op f.part)) → IfOk r (IsFirstDifference old new)
 ends_first old new s f e is h (Err x) by = tt
 ends_first old new s f e is h (Ok d) by =
-    let end = subst (λ x. IsFoundAt old new f.op f.part s x) is h.found in
-    first_at old new s f.op f.part f.found d h (by end.0 end.1.0 end.1.1)
+    let (base, end, order) = subst (λ x. IsFoundAt old new f.op f.part s x) is h.found in
+    first_at old new s f.op f.part f.found d h (by base end order)
 
 -- ## What walks answer
 

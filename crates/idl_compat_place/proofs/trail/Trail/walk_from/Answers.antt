@@ -18,10 +18,8 @@ returns-in-Some c = λ k n a all o.
     let up = first_next i j k n base s.pairing.pairs p c.args.origin c.len-from.result c.len-from.ensures o in
     let first = none_own base s.origins c.args.origin (omega (arith, as_many)) in (
       base,
-      (
-        walked_some i j k n base (λ m. IsPair m p.old.0 p.new.0) s c.place.new.self c.in_ok-end.field-0 c.in-Some.end (c.in_ok-end.ensures.walks i j k n base a (omega arith) o) c.in-Some.is,
-        comes_some base c.place.new.self.origins next c.in_ok-end.field-0 c.in-Some.end (c.in_ok-end.ensures.order base next first up) c.in-Some.is,
-      ),
+      walked_some i j k n base (λ m. IsPair m p.old.0 p.new.0) s c.place.new.self c.in_ok-end.field-0 c.in-Some.end (c.in_ok-end.ensures.walks i j k n base a (omega arith) o) c.in-Some.is,
+      comes_some base c.place.new.self.origins next c.in_ok-end.field-0 c.in-Some.end (c.in_ok-end.ensures.order base next first up) c.in-Some.is,
     )
 
 pub returns-in-Some-2 : goal.returns-in-Some-2
@@ -42,11 +40,9 @@ returns-in-Some-2 c = λ k n a all o.
     let first = none_own base s.origins c.args.origin (omega (arith, as_many)) in
     let come = comes_none base r.origins next c.in_ok-end.field-0 (c.in_ok-end.ensures.order base next first up) none in (
       base,
-      (
-        walked_some i j k n base (AllAlike i.types j.types) r c.walk_types.new.self c.in_ok-end-2.field-0 c.in-Some-2.end
-            (c.in_ok-end-2.ensures.walks k n base h.trail (omega (arith, from)) expanded) c.in-Some-2.is,
-        ends_some base c.walk_types.new.self.origins c.in_ok-end-2.field-0 c.in-Some-2.end (c.in_ok-end-2.ensures.order base come) c.in-Some-2.is,
-      ),
+      walked_some i j k n base (AllAlike i.types j.types) r c.walk_types.new.self c.in_ok-end-2.field-0 c.in-Some-2.end
+          (c.in_ok-end-2.ensures.walks k n base h.trail (omega (arith, from)) expanded) c.in-Some-2.is,
+      ends_some base c.walk_types.new.self.origins c.in_ok-end-2.field-0 c.in-Some-2.end (c.in_ok-end-2.ensures.order base come) c.in-Some-2.is,
     )
 
 pub returns-in-None : goal.returns-in-None
