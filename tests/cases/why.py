@@ -21,7 +21,7 @@ def of(*words):
 def helped(*words):
     """The case of `help` with words, which is `why` of all of them."""
     status, out, notes = why.why(["help", *words])
-    return Case("why: by help, " + (", ".join(words) or "no words"), ["help", *words], out=out.encode(), notes=notes.encode(), status=status)
+    return Case("why: by help, " + (", ".join(words) or f"{len(words)} words"), ["help", *words], out=out.encode(), notes=notes.encode(), status=status)
 
 
 def example(name, at, part):
