@@ -230,7 +230,7 @@ module _ (table : Table) (t : ℕ) (p p1 : Progress) (r : Result Shape Halt) whe
       by (Ok s) f l = λ least ks e.
           (let k : least_by least (type_at table t) ≡ total least (map (λ m. m.of.0) members) = ap (least_by least) is in
           let j : total least (child_types (type_at table t) (flat_shape s).0 ks) ≡ total least (map (λ m. m.of.0) members) =
-          ap (λ d. total least (child_types d (flat_shape s).0 ks)) is ∙ ap (λ x. total least (child_types (Some (def.Struct members)) x.0 ks)) f in
+          ap (λ d. total least (child_types d (flat_shape s).0 ks)) is ∙ ap (λ (x : Flat). total least (child_types (Some (def.Struct members)) x.0 ks)) f in
           omega (arith, k, j, l))
       by (Err x) f l = tt
 
@@ -243,8 +243,8 @@ module _ (table : Table) (t : ℕ) (p p1 : Progress) (r : Result Shape Halt) whe
       by (Ok s) f = λ least ks e.
           (let k : least_by least (type_at table t) ≡ least elem.0 = ap (least_by least) is in
           let j : total least (child_types (type_at table t) (flat_shape s).0 ks) ≡ total least (replicate (count ks) elem.0) =
-          ap (λ d. total least (child_types d (flat_shape s).0 ks)) is ∙ ap (λ x. total least (child_types (Some (def.Array elem (Some b) false)) x.0 ks)) f.0 in
-          let many : count ks ≡ limit = e ∙ ap (λ x. x.1) f.0 in
+          ap (λ d. total least (child_types d (flat_shape s).0 ks)) is ∙ ap (λ (x : Flat). total least (child_types (Some (def.Array elem (Some b) false)) x.0 ks)) f.0 in
+          let many : count ks ≡ limit = e ∙ ap (λ (x : Flat). x.1) f.0 in
           let a = total_replicate least (count ks) elem.0 in
           let c : 1 * least elem.0 ≤ count ks * least elem.0 = times_less 1 (count ks) (least elem.0) (omega (arith, many, same, some)) in
           let d : 1 * least elem.0 ≡ least elem.0 = omega arith in

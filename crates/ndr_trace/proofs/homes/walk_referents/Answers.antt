@@ -1,4 +1,4 @@
-use Rattle.std.proofs.Common.{◌≡◌, rules, [], refl}
+use Rattle.std.proofs.Common.{◌≡◌, ◌+◌, ◌-◌, ◌<◌, ◌≤◌, ◌^◌, ◌∙◌, ◌∷◌, rules, [], length, length-append, ap, arith, refl}
 use Rattle.ndr_trace_value.specs.declared.progress.Halt.TheVariants as halts
 use Rattle.ndr_trace_value.proofs.Passing.{err_as}
 use Rattle.ndr_trace.proofs.Referents.{emptied, taken}
@@ -7,13 +7,20 @@ use Rattle.ndr_trace.proofs.homes.walk_referents.Goals as goal
 pub loop-next-init : goal.loop-next-init
 loop-next-init c k u s due rest names a = a
 
+pub loop-next-smaller : goal.loop-next-smaller
+loop-next-smaller c =
+    let fits : c.walk_referent.new.walker.progress.next < 2 ^ 64 = search rules in
+    let (later, paid) = c.in_ok-walk_referent.ensures.paid in
+    let one_less = ap (λ ps. length ps) c.in-Some.ensures.items ∙ length-append c.pop.new.self.items (c.in-Some.next ∷ []) in
+    omega (arith, fits, later, paid, one_less)
+
 pub loop-next-preserved : goal.loop-next-preserved
 loop-next-preserved c k u s due rest names a =
     c.in_ok-walk_referent.ensures.goes k u s due rest names
     (taken k due rest names c.loop-next.walker _ c.in-Some.next (c.loop-next.invariant k u s due rest names a) c.in-Some.ensures.items refl refl refl refl)
 
-pub returns-loop-next-over-clause-goes : goal.returns-loop-next-over-clause-goes
-returns-loop-next-over-clause-goes c k u s due rest names a =
+pub returns-clause-goes : goal.returns-clause-goes
+returns-clause-goes c k u s due rest names a =
     let before : c.loop-next.walker.cells.pending.items ≡ [] = search rules in
     let after : c.pop.new.self.items ≡ [] = search rules in
     (after, emptied k due rest names c.loop-next.walker _ (c.loop-next.invariant k u s due rest names a) before after refl refl refl refl)

@@ -1,4 +1,4 @@
-use Rattle.std.proofs.Common.{◌≡◌, ◌+◌, ◌≤◌, ◌∙◌, Some, reverse, refl, sym, append-nil, ap, ap₂, arith, le_refl, subst}
+use Rattle.std.proofs.Common.{rules, ◌≡◌, ◌+◌, ◌≤◌, ◌∙◌, None, Some, reverse, refl, sym, append-nil, ap, ap₂, arith, le_refl, subst}
 use Rattle.ndr_explain.specs.Cursors.{level_paths, level_places, level_types, name_text, paths_from, places_from, types_from}
 use Rattle.ndr_trace_value.specs.declared.progress.Halt.TheVariants as halts
 use Rattle.ndr_trace_value.specs.Left.{GoesDown, items_left, least_items, total}
@@ -25,6 +25,9 @@ loop-next-init c = record {
       omega (arith, same);
 }
 
+pub loop-next-smaller : goal.loop-next-smaller
+loop-next-smaller c = (subst (GoesDown c.args.ground.now.interface.now.types c.loop-next.levels) c.in-Some.is c.in_ok-next.ensures.down).1
+
 pub loop-next-preserved : goal.loop-next-preserved
 loop-next-preserved c = record {
   some = (subst (GoesDown c.args.ground.now.interface.now.types c.loop-next.levels) c.in-Some.is c.in_ok-next.ensures.down).0;
@@ -42,11 +45,12 @@ loop-next-preserved c = record {
       omega (arith, so_far, one);
 }
 
-pub returns-loop-next-over-clause-goes : goal.returns-loop-next-over-clause-goes
-returns-loop-next-over-clause-goes c k u from n left there rest tr names nm =
+pub returns-clause-goes : goal.returns-clause-goes
+returns-clause-goes c k u from n left there rest tr names nm =
     let g = c.loop-next.invariant.here k u from n left there rest tr names nm in
     let due = values_due k c.args.home (level_types c.args.first) n left in
-    subst (λ r. ComesTo k c.args.home c.args.max (name_text c.args.name) due rest names c.args.walker.now c.take_node.new.walker r) c.loop-next-over.is
+    let over : c.in_ok-next.field-0 ≡ None = search rules in
+    subst (λ r. ComesTo k c.args.home c.args.max (name_text c.args.name) due rest names c.args.walker.now c.take_node.new.walker r) over
     (one_turn k c.args.home c.args.max (name_text c.args.name) due rest names c.args.walker.now c.loop-next.walker c.take_node.new.walker c.loop-next.levels g
     c.in_ok-next.field-0 (c.in_ok-next.ensures.goes k u from g.node g.left g.there rest g.tracing names g.named.naming))
 
@@ -56,12 +60,13 @@ returns-in_err-next-clause-ends c k u from n left there rest tr names nm e =
     c.in_err-next.ensures.ends k u from g.node g.left g.there rest g.tracing names g.named.naming
     (err_as c.from_residual.result c.in_err-next.field-0.0 halts.Here c.from_residual.ensures.1 e)
 
-pub returns-loop-next-over-clause-paid : goal.returns-loop-next-over-clause-paid
-returns-loop-next-over-clause-paid c = paid_on c.args.walker.now c.loop-next.walker c.take_node.new.walker c.loop-next.invariant.paid c.in_ok-next.ensures.paid
+pub returns-clause-paid : goal.returns-clause-paid
+returns-clause-paid c = paid_on c.args.walker.now c.loop-next.walker c.take_node.new.walker c.loop-next.invariant.paid c.in_ok-next.ensures.paid
 
-pub returns-loop-next-over-clause-taken : goal.returns-loop-next-over-clause-taken
-returns-loop-next-over-clause-taken c =
+pub returns-clause-taken : goal.returns-clause-taken
+returns-clause-taken c =
     let so_far = c.loop-next.invariant.taken in
+    let over : c.in_ok-next.field-0 ≡ None = search rules in
     let one = subst (λ r. items_left c.args.ground.now.interface.now.types (Some c.loop-next.levels) + c.loop-next.walker.progress.next
-    ≤ items_left c.args.ground.now.interface.now.types r + c.take_node.new.walker.progress.next) c.loop-next-over.is c.in_ok-next.ensures.taken in
+    ≤ items_left c.args.ground.now.interface.now.types r + c.take_node.new.walker.progress.next) over c.in_ok-next.ensures.taken in
     omega (arith, so_far, one)
