@@ -4,12 +4,13 @@
    refused, a call answers DCEIDL_MEMORY.
 
    Handles. A program keeps its handles itself. Each begins as DCEIDL_NONE, which holds nothing, and is used by its address. A call that fills a handle
-   frees what it held before. To free a handle leaves it holding nothing, so it may be freed twice and used again. Values keep what they need of their
+   frees what it held before. A handle that was freed holds nothing, so it may be freed twice and used again. Values keep what they need of their
    interface: either may be freed first. DCEIDL_NONE is an initialiser; in memory that is allocated, write `*values = (dceidl_values)DCEIDL_NONE`, or
    set it all to zero octets, which is the same.
 
-   Answers. Each call but the frees answers a status. A handle that holds nothing, or not what the call needs, is answered by DCEIDL_EMPTY before anything
-   else is looked at. Unless the answer is DCEIDL_OK, what a call would fill, set or write is as before, except that DCEIDL_SHORT sets the length or count
+   Answers. Each call but the frees answers a status. If a handle that a call reads from holds nothing, the call answers DCEIDL_EMPTY before it looks at
+   anything else; so it does if the handle holds something of another kind, which only a cast can bring about, as of a dceidl_values to a dceidl_nodes.
+   Unless the answer is DCEIDL_OK, what a call would fill, set or write is as before, except that DCEIDL_SHORT sets the length or count
    that is needed. The number of a wrong node is set at DCEIDL_WRONG_NODE alone, and the fault is filled at DCEIDL_REFUSED alone: after any other answer
    it still is that of an earlier call.
 
@@ -21,8 +22,11 @@
    - A pointer is never null and is valid for its length, for a length of 0 too: dceidl_some makes such a pointer to octets of a null one. Where there
      are no nodes, numbers or cells, any object of their type will do.
    - No two arguments of a call overlap, unless both are const.
-   - A handle is DCEIDL_NONE before its first use, is not copied, and its parts are neither read nor written.
-   - One call at a time uses a handle, and all calls with handles of one interface, and of its values, their nodes and items, are made by one thread.
+   - A handle is DCEIDL_NONE before its first use, and its parts are neither read nor written. It may be moved, as realloc or memcpy moves the struct that
+     has it, if the old place is never used again, not even to free it; two places never hold the same handle.
+   - At each moment at most one thread is in a call with a handle of an interface, or of its values, or of another handle that dceidl_interface_again
+     filled from it. Which thread that is may change, if the program orders the calls, as by a lock. Nodes, items and faults belong to no interface: of
+     these each handle is used by one thread at a time.
    - No call is made in a signal handler, or in the child that a process with threads has forked.
    Everything else is answered by a status: octets and texts of any content, numbers out of range, empty handles, handles of the wrong kind. */
 #ifndef DCEIDL_H
@@ -30,6 +34,7 @@
 
 #include <stddef.h>
 #include <stdint.h>
+#include <string.h>
 
 #ifdef __cplusplus
 extern "C" {
@@ -39,9 +44,9 @@ extern "C" {
 
 enum dceidl_status {
     DCEIDL_OK = 0,
-    DCEIDL_EMPTY = 1,    /* a handle holds nothing, or not what the call needs */
-    DCEIDL_ARGUMENT = 2, /* a number is out of range, as an operation, a side, an order, a chunk, a file, a node; or a type, a node or values are of a kind
-                            that the call does not take; or the name of a file or of an operation is not UTF-8 */
+    DCEIDL_EMPTY = 1,    /* a handle holds nothing, or something of another kind */
+    DCEIDL_ARGUMENT = 2, /* a number is out of range, as an operation, a side, an order, a chunk, a file, a type, a node; or a type, a node or values are of
+                            a kind that the call does not take; or the name of a file or of an operation is not UTF-8 */
     DCEIDL_MEMORY = 3,   /* out of memory */
     DCEIDL_SHORT = 4,    /* the buffer has too little room; the length that is needed is set */
     DCEIDL_REFUSED = 5,  /* the files, octets, text or values are refused; the fault says why */
@@ -171,7 +176,7 @@ typedef struct {
         { NULL, 0 }                                                                                                                                   \
     }
 
-/* A number of 128 bits in two's complement: its lower 64 bits and its upper ones. Where it fits in 64 bits, (int64_t)low is the number. */
+/* A number of 128 bits: its lower 64 bits and its upper ones. A signed one is in two's complement; where it fits in 64 bits, (int64_t)low is the number. */
 typedef struct {
     uint64_t low;
     uint64_t high;
@@ -213,16 +218,27 @@ static inline const uint8_t *dceidl_some(const void *octets) {
     return octets ? (const uint8_t *)octets : &none;
 }
 
+/* A file whose name and text are strings of C, which end with a zero octet; these stay where they are. */
+static inline dceidl_file dceidl_file_of(const char *name, const char *text) {
+    dceidl_file file;
+    file.name = (const uint8_t *)name;
+    file.name_length = strlen(name);
+    file.text = (const uint8_t *)text;
+    file.text_length = strlen(text);
+    return file;
+}
+
 /* DCEIDL_VERSION of the library. */
 uint32_t dceidl_version(void);
 
 /* ---- Interfaces ---- */
 
-/* Compiles files[0] with what it imports, all among the files. `acf` is the number of the attribute configuration file among them, or 0 for none. Of two
-   files of one name the later counts. The texts are read during the call only. The language is that of docs/IDL.md; some of C706 is left out, such as
-   float and double, and refused as DCEIDL_FILE_LEFT_OUT.
-   REFUSED: the fault is the first of the files, or names the first that was due and is not among them. ARGUMENT: count is 0, acf is not less than count,
-   or the name of a file is not UTF-8. MEMORY. */
+/* Compiles files[0] with what it imports, all among the files. A file is found by its name as `import` writes it, octet for octet, folders included:
+   `import "common/wide.idl"` asks for a file of the name `common/wide.idl`, and no file `wide.idl` will do. `acf` is the number of the attribute
+   configuration file among them, or 0 for none. Of two files of one name the later counts. The texts are read during the call only. The language is that of
+   docs/IDL.md; some of C706 is left out, such as float and double, and refused as DCEIDL_FILE_LEFT_OUT.
+   REFUSED: the fault is the first of the files, or names the first that was due and is not among them. ARGUMENT, before anything is compiled: count is 0,
+   acf is not less than count, or the name of a file is not UTF-8. MEMORY. */
 uint32_t dceidl_compile(const dceidl_file *files, size_t count, size_t acf, dceidl_interface *interface, dceidl_fault *fault);
 
 /* The languages of files of IDL: that of dceidl_compile, and the same with the words `any_size` and `any_length` (docs/WINDOWS.md). */
@@ -247,14 +263,35 @@ uint32_t dceidl_operation_number(dceidl_interface *interface, const uint8_t *nam
 /* Writes the name of an operation, without an end mark, and sets its length, at most 31. EMPTY; ARGUMENT: no such operation; SHORT. */
 uint32_t dceidl_operation_name(dceidl_interface *interface, uint32_t operation, uint8_t *out, size_t room, size_t *length);
 
+/* Who an interface is. */
+typedef struct {
+    uint32_t has_uuid;  /* 1 if the file has a UUID, 0 if not */
+    uint32_t major;     /* the version; 0 and 0 if the file has none */
+    uint32_t minor;
+    uint32_t types;     /* how many types there are: their numbers are 0 to types - 1 */
+    dceidl_number uuid; /* high has the 16 hexadecimal digits that are written first, low the others; 0 if the file has none */
+} dceidl_identity;
+
+/* Sets who an interface is. EMPTY. */
+uint32_t dceidl_interface_identity(dceidl_interface *interface, dceidl_identity *identity);
+
+/* Writes the name of an interface, without an end mark, and sets its length, at most 31. EMPTY, SHORT. */
+uint32_t dceidl_interface_name(dceidl_interface *interface, uint8_t *out, size_t room, size_t *length);
+
+/* Writes the listing of an interface (docs/LISTING.md) as the command `compile` prints it, without an end mark, and sets its length: all that the interface
+   has, as text, with the attributes such as size_is, which no other call gives. Its numbers of types and of operations are those of these calls.
+   EMPTY, SHORT, MEMORY. */
+uint32_t dceidl_interface_listing(dceidl_interface *interface, uint8_t *out, size_t room, size_t *length);
+
 /* Compares two versions of an interface. OK: the newer one has all operations of the older, and octets of these represent the same values under both.
    REFUSED: the fault has the first reason why not. EMPTY, MEMORY. */
 uint32_t dceidl_compare(dceidl_interface *older, dceidl_interface *newer, dceidl_fault *fault);
 
 /* ---- Values ---- */
 
-/* The values of a side of an operation that octets begin with; `taken` is how many octets these are. More may follow them. A response is not
-   checked against its request: a count or a tag that only the request has is taken as it is read.
+/* The values of a side of an operation that octets begin with; `taken` is how many octets these are. More may follow them: that taken is less than length is
+   no refusal here, though the program `dceidl` refuses it as `Trailing`; a caller that wants no more compares the two. A response is not checked against its
+   request: a count or a tag that only the request has is taken as it is read.
    REFUSED: the fault has the place of the first octet that is refused, and the reason. EMPTY; ARGUMENT: operation, side or order; MEMORY. */
 uint32_t dceidl_decode(dceidl_interface *interface, uint32_t operation, uint32_t side, uint32_t order, const uint8_t *octets, size_t length,
                        dceidl_values *values, size_t *taken, dceidl_fault *fault);
@@ -307,18 +344,101 @@ uint32_t dceidl_label_order(const uint8_t *octets, size_t length, uint32_t *orde
 
 /* ---- Types ---- */
 
-/* Roots and members by their names. Types have numbers, the same for as long as the interface is held: a program asks once, and reads many values. */
+/* Types have numbers from 0, without holes; dceidl_interface_identity says how many. They stay the same for as long as the interface is held, so a program
+   asks once, and reads many values. The first twelve are, in every interface, boolean, char, byte, small, unsigned small, short, unsigned short, long,
+   unsigned long, hyper, unsigned hyper and the context handle. Two types of other numbers are different types, though they may look alike. */
 
-/* Sets the number of the first root of a side of an operation that has a name, that of a parameter or `return`, and its type. EMPTY; ARGUMENT:
-   operation or side; ABSENT, also where the name is not UTF-8. */
+/* The numbers of a type. Those of 1 to 11 are the types 0 to 10, and each is named by what C706 calls it. */
+enum dceidl_number_kind {
+    DCEIDL_NUMBER_BOOLEAN = 1,
+    DCEIDL_NUMBER_CHAR = 2,
+    DCEIDL_NUMBER_BYTE = 3,
+    DCEIDL_NUMBER_SMALL = 4,
+    DCEIDL_NUMBER_UNSIGNED_SMALL = 5,
+    DCEIDL_NUMBER_SHORT = 6,
+    DCEIDL_NUMBER_UNSIGNED_SHORT = 7,
+    DCEIDL_NUMBER_LONG = 8,
+    DCEIDL_NUMBER_UNSIGNED_LONG = 9,
+    DCEIDL_NUMBER_HYPER = 10,
+    DCEIDL_NUMBER_UNSIGNED_HYPER = 11,
+    DCEIDL_NUMBER_ENUM = 12 /* an enumerated type */
+};
+
+enum dceidl_pointer_kind { DCEIDL_REF = 1, DCEIDL_UNIQUE = 2, DCEIDL_FULL = 3 };
+
+/* What a type is. What does not apply to its kind is 0. */
+typedef struct {
+    uint32_t kind;            /* of enum dceidl_node_kind: the kind of the nodes of its values */
+    uint32_t number;          /* NUMBER: of enum dceidl_number_kind */
+    uint32_t octets;          /* NUMBER: how many octets one has, 1, 2, 4 or 8 */
+    uint32_t is_signed;       /* NUMBER: 1 if the number of a node is to be read as (int64_t)number, 0 if it is the number as it stands */
+    uint32_t part;            /* ARRAY, STRING, PIPE: the type of the elements; POINTER: the type of what it points to; UNION: the type of the tag */
+    uint32_t bound;           /* ARRAY, STRING: the maximum count, if it is fixed; of a string with its end mark. 0 if the type is conformant: then each
+                                 value has a maximum count of its own */
+    uint32_t is_varying;      /* ARRAY: 1 if offset and actual count are sent, 0 if not */
+    uint32_t pointer;         /* POINTER: of enum dceidl_pointer_kind */
+    uint32_t is_encapsulated; /* UNION: 1 if the tag is a part of the union alone, 0 if switch_is names a parameter or member that states it too */
+    uint32_t has_default;     /* UNION: 1 if it has a default, which is its last arm, 0 if not */
+    size_t parts;             /* STRUCT: how many members there are; UNION: how many arms, the default counted; NUMBER: how many enumerators */
+} dceidl_type;
+
+/* Sets what a type is; in constant time. EMPTY; ARGUMENT: no such type. */
+uint32_t dceidl_type_at(dceidl_interface *interface, uint32_t type, dceidl_type *about);
+
+/* The directions of a parameter. The result has DCEIDL_WAY_OUT. */
+enum dceidl_way { DCEIDL_WAY_IN = 1, DCEIDL_WAY_OUT = 2, DCEIDL_WAY_IN_OUT = 3 };
+
+/* A root of a side of an operation: a parameter that is sent on that side, or the result. */
+typedef struct {
+    uint32_t type;      /* its type; of a reference pointer to a pipe, the pipe */
+    uint32_t way;       /* of enum dceidl_way */
+    uint32_t is_result; /* 1 if it is the result, 0 if it is a parameter */
+    uint32_t is_pipe;   /* 1 if it is a pipe, 0 if not */
+} dceidl_root;
+
+/* Sets how many roots a side of an operation has. EMPTY; ARGUMENT: operation or side. */
+uint32_t dceidl_root_count(dceidl_interface *interface, uint32_t operation, uint32_t side, size_t *count);
+
+/* Sets what a root is, by its number from 0, in the order of docs/LISTING.md: parameters, the result, pipes. Writes its name, that of the parameter or
+   `return`, and sets its length, at most 31. The time is in proportion to the parameters. EMPTY; ARGUMENT: operation or side, or no such root; SHORT. */
+uint32_t dceidl_root_at(dceidl_interface *interface, uint32_t operation, uint32_t side, size_t root, dceidl_root *about, uint8_t *out, size_t room,
+                        size_t *length);
+
+/* Sets the number of the first root of a side of an operation that has a name, and its type. EMPTY; ARGUMENT: operation or side; ABSENT, also where the name
+   is not UTF-8. */
 uint32_t dceidl_root_named(dceidl_interface *interface, uint32_t operation, uint32_t side, const uint8_t *name, size_t length, size_t *root,
                            uint32_t *type);
 
-/* Sets the index of the first member of a struct that has a name, as dceidl_node_part takes it, and its type. EMPTY; ARGUMENT: the type is not a struct;
-   ABSENT, also where the name is not UTF-8. */
+/* Sets the type of a member of a struct, by its index from 0, as dceidl_node_part takes it; writes its name, and sets its length, at most 31; in constant
+   time. EMPTY; ARGUMENT: no such type, or it is no struct, or has no such member; SHORT. */
+uint32_t dceidl_member_at(dceidl_interface *interface, uint32_t type, size_t member, uint32_t *member_type, uint8_t *out, size_t room, size_t *length);
+
+/* Sets the index of the first member of a struct that has a name, and its type. EMPTY; ARGUMENT: no such type, or it is no struct; ABSENT, also where the
+   name is not UTF-8. */
 uint32_t dceidl_member_named(dceidl_interface *interface, uint32_t type, const uint8_t *name, size_t length, size_t *member, uint32_t *member_type);
 
-/* Sets the type of the elements of an array or a pipe, or of what a pointer points to. EMPTY; ARGUMENT: the type is another one. */
+/* An arm of a union. There is an arm for each label; labels of one arm in the file are several arms here, of one name and type. */
+typedef struct {
+    uint64_t label;      /* the label, as the `number` of a node of the union is; of the default 0 */
+    uint32_t is_default; /* 1 if it is the default, 0 if not */
+    uint32_t has_name;   /* 1 if it has a name, 0 if not, as an empty arm has none */
+    uint32_t has_type;   /* 1 if it has a value, 0 if it is empty */
+    uint32_t type;       /* the type of the value; 0 if it is empty */
+} dceidl_arm;
+
+/* Sets what an arm of a union is, by its index from 0, in the order of the file except that the default is the last; writes its name, and sets its length, at
+   most 31; in constant time. EMPTY; ARGUMENT: no such type, or it is no union, or has no such arm; SHORT. */
+uint32_t dceidl_arm_at(dceidl_interface *interface, uint32_t type, size_t arm, dceidl_arm *about, uint8_t *out, size_t room, size_t *length);
+
+/* Sets the index of the arm that a tag selects: that with this label, or else the default. The tag is the `number` of a node of the union. The time is in
+   proportion to the arms. EMPTY; ARGUMENT: no such type, or it is no union; ABSENT: the tag selects no arm. */
+uint32_t dceidl_arm_selected(dceidl_interface *interface, uint32_t type, uint64_t tag, size_t *arm);
+
+/* Sets the value of an enumerator of an enumerated type, by its index from 0, in the order of docs/LISTING.md. EMPTY; ARGUMENT: no such type, or it is not
+   enumerated, or has no such enumerator. */
+uint32_t dceidl_enumerator_at(dceidl_interface *interface, uint32_t type, size_t enumerator, uint64_t *value);
+
+/* Sets the type of the elements of an array or a pipe, or of what a pointer points to. EMPTY; ARGUMENT: no such type, or it is another one. */
 uint32_t dceidl_element_type(dceidl_interface *interface, uint32_t type, uint32_t *element_type);
 
 /* ---- Nodes ---- */
@@ -343,16 +463,17 @@ typedef struct {
     uint32_t parts;   /* how many parts are nodes */
     uint32_t count;   /* ARRAY, PIPE: how many elements there are */
     uint32_t numbers; /* ARRAY, PIPE: how many of these are numbers: all or none of them */
-    uint32_t max;     /* ARRAY, STRING: the maximum count, of a string with its end mark; if the bound is fixed, that bound, and if not, no less than the
-                         elements, or the octets of a string and 1 */
+    uint32_t max;     /* ARRAY, STRING: the maximum count, of a string with its end mark. Where the type has a bound it is that bound. Where the type is
+                         conformant it is as the octets or the text had it: an array has at most that many elements, and a string is shorter than it */
     uint32_t offset;  /* ARRAY: the offset */
-    uint64_t number;  /* NUMBER; UNION: the tag; POINTER: the cell, from 1, or 0 if it is null; CONTEXT: the attributes. It is in two's complement: of a
-                         signed type the number is (int64_t)number */
+    uint64_t number;  /* NUMBER: the number; UNION: the tag; POINTER: the number of the cell, from 1, or 0 if it is null; CONTEXT: the attributes. Numbers and
+                         tags are extended to 64 bits: if dceidl_type_at says that the type is signed, the number is (int64_t)number */
     size_t length;    /* STRING, CONTEXT: how many octets dceidl_node_octets copies, of a string without its end mark */
 } dceidl_node;
 
-/* Fills a handle with the nodes of values, which stay when the values are freed. The time and memory are in proportion to the values. A handle that is
-   filled again keeps the room of its last two lists of nodes for the next ones: a list that fits takes no memory. EMPTY, MEMORY. */
+/* Fills a handle with the nodes of values, which stay when the values are freed. The time and memory are in proportion to the values. The handle has room
+   for two lists, which are used by turns: the new nodes take the place of those before the last ones, so that the last ones stay if memory is refused. A list
+   that fits there takes no memory. dceidl_nodes_free gives both back. EMPTY, MEMORY. */
 uint32_t dceidl_nodes_of(dceidl_values *values, dceidl_nodes *nodes);
 
 void dceidl_nodes_free(dceidl_nodes *nodes);
@@ -441,13 +562,16 @@ typedef struct {
     uint32_t kind;    /* of enum dceidl_item_kind */
     uint32_t in_cell; /* 1 if it is of a cell, 0 if it is of a root */
     uint32_t home;    /* the number of that cell, from 1, or of that root, from 0 */
-    uint32_t node;    /* which node of this cell or root it is of, depth first from 0; elements that are numbers count as nodes here. 0 of a gap, of a
-                         maximum count in front of a struct, and of the count of a chunk */
-    uint64_t number;  /* the number that its octets hold, in two's complement; of a gap and a context handle 0 */
+    uint32_t node;    /* which value of this cell or root it is of, depth first, from 0: the cell's or root's own value is 0, and its parts follow it, each
+                         with its own parts before the next one. Here an element that is a number counts too, though it is no node of dceidl_nodes: so
+                         where a node of an array has `numbers` k, its elements are the k values after it. 0 of a gap, of the count of a chunk, and of a
+                         maximum count that comes before the struct whose last member it belongs to, also where that struct is in another one */
+    uint64_t number;  /* the number that its octets hold, extended to 64 bits as those of nodes are; of a gap and a context handle 0 */
 } dceidl_item;
 
 /* Fills a handle with the items of the values of a side of an operation that octets begin with. The answers are those of dceidl_decode: REFUSED, EMPTY,
-   ARGUMENT, MEMORY. The time is in proportion to the octets that the values take, and the memory to their items. */
+   ARGUMENT, MEMORY. The time is in proportion to the octets that the values take, and the memory to their items. How many octets that is, is the end of
+   the last item, as `at` and `length` say; 0 if there is none. */
 uint32_t dceidl_items_of(dceidl_interface *interface, uint32_t operation, uint32_t side, uint32_t order, const uint8_t *octets, size_t length,
                          dceidl_items *items, dceidl_fault *fault);
 
@@ -464,7 +588,8 @@ uint32_t dceidl_item_at(dceidl_items *items, size_t index, dceidl_item *item);
 
 /* ---- Faults ---- */
 
-/* Writes the line that the command would report, with its line feed, and sets its length. EMPTY, SHORT, MEMORY. */
+/* Writes the line that the program `dceidl` would report, as `refused: octets at 2: Disagrees wanted 5 found 4`, with its line feed, and sets its length.
+   EMPTY, SHORT, MEMORY. */
 uint32_t dceidl_fault_line(dceidl_fault *fault, uint8_t *out, size_t room, size_t *length);
 
 /* Sets the numbers of the fault: what is refused, why and where. EMPTY. */
@@ -473,9 +598,14 @@ uint32_t dceidl_fault_cause(dceidl_fault *fault, dceidl_cause *cause);
 /* Writes the name of the file that is refused or is not among those given, and sets its length; 0 where there is no file. EMPTY, SHORT. */
 uint32_t dceidl_fault_file(dceidl_fault *fault, uint8_t *out, size_t room, size_t *length);
 
-/* Writes the name that belongs to the reason, and sets its length: a word or name of a file; the path of a value, as `a.b[3]` or `@2.n`; the operation
-   that differs. The length is 0 where there is none. EMPTY, SHORT. */
+/* Writes the name that belongs to the fault, and sets its length. Of a FILE: the word that is left out, the name that is unknown or declared twice. Of a
+   VALUE: the path of the value, as `a.b[3]` or `@2.n`. Of a NEWER version: the operation that differs. The length is 0 for every other fault, such as one
+   in octets. EMPTY, SHORT. */
 uint32_t dceidl_fault_name(dceidl_fault *fault, uint8_t *out, size_t room, size_t *length);
+
+/* Writes the word of the reason alone, which `dceidl why WORD` explains, as `Disagrees`, or `Rule` where a rule is broken, and sets its length. The length is 0
+   where the kind says all. EMPTY, SHORT. */
+uint32_t dceidl_fault_reason(dceidl_fault *fault, uint8_t *out, size_t room, size_t *length);
 
 void dceidl_fault_free(dceidl_fault *fault);
 

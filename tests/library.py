@@ -4,7 +4,8 @@
     tests/library.py [--prefix FOLDER] [--copies COUNT] [examples|calls|streams ..]
 
 `examples` runs the program of README.md and those of examples/c, examples/python and examples/rust, and compares what they print. `calls` tries what
-tests/library/calls.c asks of faults, fragments, labels, versions and listings, and tests/library/nodes.c of types, nodes and items. `streams` decodes
+tests/library/calls.c asks of faults, fragments, labels, versions and listings, tests/library/nodes.c of nodes and items, and tests/library/types.c of
+what an interface has. `streams` decodes
 the octets of tests/outside and mutated copies of them (tests/library/streams.c), reads the values by their nodes and items, and builds them of their
 nodes: COUNT copies of each under AddressSanitizer, 800 if it is left out, and a twentieth of these under valgrind. The library is built and installed
 in a folder of its own, or taken from FOLDER, as bin/dceidl-lib fills it.
@@ -115,8 +116,8 @@ def sanitized(run: Run, source: Path, counts: Sequence[str], wanted: Optional[st
 
 
 def calls(run: Run) -> None:
-    """The calls on faults, fragments, labels, versions and listings, and on types, nodes and items."""
-    for name in ("calls.c", "nodes.c"):
+    """The calls on faults, fragments, labels, versions and listings, on nodes and items, and on what an interface has."""
+    for name in ("calls.c", "nodes.c", "types.c"):
         sanitized(run, ROOT / "tests" / "library" / name, [], "", "")
 
 

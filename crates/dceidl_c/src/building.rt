@@ -32,12 +32,14 @@ pub extern "C" fn dceidl_build(
     ensures same { interface.new.value ≡ interface.old.value }
     ensures built { result ≡ OK → IsSomeAnd (interface_in interface.old.value)
         (λ i. IsSomeAnd (values_in values.new.value) (λ v. IsBuild i operation side listing.now v)) }
-    ensures few { result ≡ OK → has_too_many listing.now ≡ false }
+    ensures few { (result ≡ EMPTY → ⊥) → (result ≡ ARGUMENT → ⊥) → has_too_many listing.now ≡ false }
     ensures refused { result ≡ REFUSED → IsSomeAnd (interface_in interface.old.value)
         (λ i. IsSomeAnd (refusal_in fault.new.value) (λ e. IsBuildRefusal i operation side listing.now e)) }
     ensures wrong { result ≡ WRONG_NODE → IsSomeAnd (interface_in interface.old.value) (λ i. IsWrongNode i operation side listing.now node.new) }
     ensures argument { result ≡ ARGUMENT → IsSomeAnd (interface_in interface.old.value)
         (λ i. is_side i operation side ≡ true → has_too_many listing.now ≡ true) }
+    ensures range { (result ≡ EMPTY → ⊥) → (result ≡ ARGUMENT → ⊥) → IsSomeAnd (interface_in interface.old.value)
+        (λ i. is_side i operation side ≡ true) }
     ensures empty { result ≡ EMPTY → interface_in interface.old.value ≡ None }
     ensures memory { result ≡ MEMORY → is_some (interface_in interface.old.value) ≡ true }
     ensures values_kept { (result ≡ OK → ⊥) → values.new.value ≡ values.old.value }
@@ -73,7 +75,7 @@ pub extern "C" fn dceidl_build_response(
     ensures same { request.new.value ≡ request.old.value }
     ensures built { result ≡ OK → IsSomeAnd (values_in request.old.value)
         (λ q. IsSomeAnd (values_in values.new.value) (λ v. IsBuiltReply q listing.now v)) }
-    ensures few { result ≡ OK → has_too_many listing.now ≡ false }
+    ensures few { (result ≡ EMPTY → ⊥) → (result ≡ ARGUMENT → ⊥) → has_too_many listing.now ≡ false }
     ensures refused { result ≡ REFUSED → IsSomeAnd (values_in request.old.value)
         (λ q. IsSomeAnd (refusal_in fault.new.value) (λ e. IsBuiltReplyRefusal q listing.now e)) }
     ensures wrong { result ≡ WRONG_NODE → IsSomeAnd (values_in request.old.value) (λ q. IsWrongReplyNode q listing.now node.new) }

@@ -40,7 +40,7 @@ pub extern "C" fn dceidl_compile(
     ensures refused { result ≡ REFUSED → IsSomeAnd (refusal_in fault.new.value) (λ e. IsFilesRefusal InC706 files.now acf e) }
     ensures argument { result ≡ ARGUMENT → acf < length files.now → HasBadName files.now }
     ensures there { (result ≡ ARGUMENT → ⊥) → acf < length files.now }
-    ensures named { result ≡ OK → HasBadName files.now → ⊥ }
+    ensures named { (result ≡ ARGUMENT → ⊥) → HasBadName files.now → ⊥ }
     ensures interface_kept { (result ≡ OK → ⊥) → interface.new.value ≡ interface.old.value }
     ensures fault_kept { (result ≡ REFUSED → ⊥) → fault.new.value ≡ fault.old.value }
 {
@@ -68,7 +68,7 @@ pub extern "C" fn dceidl_compile_language(
     ensures other { 2 ≤ language → result ≡ ARGUMENT }
     ensures argument { language < 2 → result ≡ ARGUMENT → acf < length files.now → HasBadName files.now }
     ensures there { (result ≡ ARGUMENT → ⊥) → acf < length files.now }
-    ensures named { result ≡ OK → HasBadName files.now → ⊥ }
+    ensures named { (result ≡ ARGUMENT → ⊥) → HasBadName files.now → ⊥ }
     ensures interface_kept { (result ≡ OK → ⊥) → interface.new.value ≡ interface.old.value }
     ensures fault_kept { (result ≡ REFUSED → ⊥) → fault.new.value ≡ fault.old.value }
 {

@@ -33,6 +33,8 @@ pub extern "C" fn dceidl_items_of(
     ensures refused { result ≡ REFUSED → IsSomeAnd (interface_in interface.old.value)
         (λ i. IsSomeAnd (refusal_in fault.new.value) (λ e. IsDecodeRefusal i operation side order octets.now e)) }
     ensures argument { result ≡ ARGUMENT → IsSomeAnd (interface_in interface.old.value) (λ i. is_stream i operation side order ≡ false) }
+    ensures range { (result ≡ EMPTY → ⊥) → (result ≡ ARGUMENT → ⊥) → IsSomeAnd (interface_in interface.old.value)
+        (λ i. is_stream i operation side order ≡ true) }
     ensures empty { result ≡ EMPTY → interface_in interface.old.value ≡ None }
     ensures memory { result ≡ MEMORY → is_some (interface_in interface.old.value) ≡ true }
     ensures items_kept { (result ≡ OK → ⊥) → items.new.value ≡ items.old.value }
@@ -69,6 +71,7 @@ pub extern "C" fn dceidl_items_of_response(
     ensures refused { result ≡ REFUSED → IsSomeAnd (values_in request.old.value)
         (λ q. IsSomeAnd (refusal_in fault.new.value) (λ e. IsResponseRefusal q order octets.now e)) }
     ensures argument { result ≡ ARGUMENT → IsSomeAnd (values_in request.old.value) (λ q. is_some (order_numbered order) ≡ true → q.side ≡ Out) }
+    ensures order { (result ≡ EMPTY → ⊥) → (result ≡ ARGUMENT → ⊥) → is_some (order_numbered order) ≡ true }
     ensures request { (result ≡ EMPTY → ⊥) → (result ≡ ARGUMENT → ⊥) → IsSomeAnd (values_in request.old.value) (λ q. q.side ≡ In) }
     ensures empty { result ≡ EMPTY → values_in request.old.value ≡ None }
     ensures items_kept { (result ≡ OK → ⊥) → items.new.value ≡ items.old.value }

@@ -4,9 +4,11 @@
 mod building;
 mod faults;
 mod fragments;
+mod identity;
 mod interfaces;
 mod items;
 mod nodes;
+mod parts;
 mod reading;
 mod types;
 mod versions;

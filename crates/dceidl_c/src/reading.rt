@@ -32,6 +32,8 @@ pub extern "C" fn dceidl_decode(
     ensures refused { result ≡ REFUSED → IsSomeAnd (interface_in interface.old.value)
         (λ i. IsSomeAnd (refusal_in fault.new.value) (λ e. IsDecodeRefusal i operation side order octets.now e)) }
     ensures argument { result ≡ ARGUMENT → IsSomeAnd (interface_in interface.old.value) (λ i. is_stream i operation side order ≡ false) }
+    ensures range { (result ≡ EMPTY → ⊥) → (result ≡ ARGUMENT → ⊥) → IsSomeAnd (interface_in interface.old.value)
+        (λ i. is_stream i operation side order ≡ true) }
     ensures empty { result ≡ EMPTY → interface_in interface.old.value ≡ None }
     ensures memory { result ≡ MEMORY → is_some (interface_in interface.old.value) ≡ true }
     ensures values_kept { (result ≡ OK → ⊥) → values.new.value ≡ values.old.value }
@@ -70,6 +72,7 @@ pub extern "C" fn dceidl_decode_response(
     ensures refused { result ≡ REFUSED → IsSomeAnd (values_in request.old.value)
         (λ q. IsSomeAnd (refusal_in fault.new.value) (λ e. IsResponseRefusal q order octets.now e)) }
     ensures argument { result ≡ ARGUMENT → IsSomeAnd (values_in request.old.value) (λ q. is_some (order_numbered order) ≡ true → q.side ≡ Out) }
+    ensures order { (result ≡ EMPTY → ⊥) → (result ≡ ARGUMENT → ⊥) → is_some (order_numbered order) ≡ true }
     ensures request { (result ≡ EMPTY → ⊥) → (result ≡ ARGUMENT → ⊥) → IsSomeAnd (values_in request.old.value) (λ q. q.side ≡ In) }
     ensures empty { result ≡ EMPTY → values_in request.old.value ≡ None }
     ensures values_kept { (result ≡ OK → ⊥) → values.new.value ≡ values.old.value }
@@ -108,6 +111,8 @@ pub extern "C" fn dceidl_read(
     ensures refused { result ≡ REFUSED → IsSomeAnd (interface_in interface.old.value)
         (λ i. IsSomeAnd (refusal_in fault.new.value) (λ e. IsReadRefusal i operation side text.now e)) }
     ensures argument { result ≡ ARGUMENT → IsSomeAnd (interface_in interface.old.value) (λ i. is_side i operation side ≡ false) }
+    ensures range { (result ≡ EMPTY → ⊥) → (result ≡ ARGUMENT → ⊥) → IsSomeAnd (interface_in interface.old.value)
+        (λ i. is_side i operation side ≡ true) }
     ensures empty { result ≡ EMPTY → interface_in interface.old.value ≡ None }
     ensures memory { result ≡ MEMORY → is_some (interface_in interface.old.value) ≡ true }
     ensures values_kept { (result ≡ OK → ⊥) → values.new.value ≡ values.old.value }

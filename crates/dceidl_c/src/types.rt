@@ -1,15 +1,45 @@
-// Roots, members and their types.
+// Types; roots and members by name.
 ghost use Rattle.std.specs.Prelude.{◌≡◌, ◌≤◌, Some, None, false, IsSomeAnd};
 ghost use Rattle.nd_types.specs.Table.{type_at};
-ghost use Rattle.library_values.specs.Finding.{element_of};
+ghost use Rattle.library_types.specs.Described.{type_described};
+ghost use Rattle.library_types.specs.Finding.{element_of};
 ghost use Rattle.library_answers.specs.Answers.{interface_in, is_side};
 ghost use Rattle.library_answers.specs.Types.{IsRoot, HasNoRootNamed, IsMember, members_of, HasNoMemberNamed};
 
 use library_answers::{
     ABSENT, ARGUMENT, EMPTY, MEMORY, OK, REFUSED, SHORT, find_element, find_member, find_root,
+    set_type,
 };
 use library_handles::{Handle, Held};
+use library_types::TypeDescription;
 use std::alloc::Global;
+
+/// What a type is.
+#[unsafe(no_mangle)]
+pub extern "C" fn dceidl_type_at(
+    alloc: Global,
+    interface: &mut Handle,
+    of: u32,
+    about: &mut TypeDescription,
+) -> u32
+    ensures known { result ≤ ARGUMENT }
+    ensures same { interface.new.value ≡ interface.old.value }
+    ensures described { result ≡ OK → IsSomeAnd (interface_in interface.old.value)
+        (λ i. IsSomeAnd (type_at i.types of) (λ d. about.new ≡ type_described d)) }
+    ensures argument { result ≡ ARGUMENT → IsSomeAnd (interface_in interface.old.value) (λ i. type_at i.types of ≡ None) }
+    ensures empty { result ≡ EMPTY → interface_in interface.old.value ≡ None }
+    ensures about_kept { (result ≡ OK → ⊥) → about.new ≡ about.old }
+{
+    let Some(held) = interface.take(alloc) else {
+        return EMPTY;
+    };
+    let status = match &*held {
+        Held::Interface(compiled) => set_type(compiled, of, about),
+        _ => EMPTY,
+    };
+    interface.put(alloc, held);
+    status
+}
 
 /// The number of a root by its name, and its type.
 #[unsafe(no_mangle)]

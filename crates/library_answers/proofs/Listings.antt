@@ -18,7 +18,7 @@ use Rattle.library_handles.specs.declared.held.Held.{Held}
 use Rattle.library_values.specs.Decoded.{IsOf}
 use Rattle.library_answers.specs.Answers.{side_numbered, values_in, refusal_in, is_side}
 use Rattle.library_answers.specs.Building.{IsBuild, IsBuildRefusal, IsWrongNode, IsBuiltReply, IsBuiltReplyRefusal, IsWrongReplyNode, has_cell}
-use Rattle.library_answers.proofs.Numbered.{there_and, of_side}
+use Rattle.library_answers.proofs.Numbered.{there_and, of_side, side_there}
 use Rattle.library_answers.proofs.Numbered as numbered
 
 -- why a graph is refused, if memory is not the reason
@@ -88,6 +88,6 @@ past_cells g c past = ap (λ (b : Bool). nat_lt 0 c && b) (lt-leb c (length g.ce
 
 -- ## What functions that build name
 
-pub ruleset builds = (no_side, no_operation, built_is, build_refused, wrong_node)
+pub ruleset builds = (no_side, no_operation, side_there, built_is, build_refused, wrong_node)
 
 pub ruleset replies = (no_request, reply_is, reply_refused, wrong_reply)

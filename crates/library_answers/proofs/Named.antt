@@ -9,8 +9,8 @@ use Rattle.nd_types.specs.declared.types.Side.{Side}
 use Rattle.nd_types.specs.declared.types.TypeId.{TypeId}
 use Rattle.nd_types.specs.Table.{type_at}
 use Rattle.nd_types.specs.Roots.{named_roots}
-use Rattle.library_values.specs.declared.finding.Named.{Named}
-use Rattle.library_values.specs.Finding.{IsRootNamed, HasNoRoot, IsMemberNamed, HasNoMember}
+use Rattle.library_types.specs.declared.finding.Named.{Named}
+use Rattle.library_types.specs.Finding.{IsRootNamed, HasNoRoot, IsMemberNamed, HasNoMember}
 use Rattle.library_answers.specs.Answers.{side_numbered}
 use Rattle.library_answers.specs.Types.{IsRoot, HasNoRootNamed, members_of, IsMember, HasNoMemberNamed}
 use Rattle.library_answers.proofs.Numbered.{there_and, of_side}

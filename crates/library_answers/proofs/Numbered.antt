@@ -55,6 +55,21 @@ no_chunk order chunk is = ap (λ n. is_some (order_numbered order) && nat_lt 0 n
 
 -- ## Numbers that mean something
 
+module _ (i : Interface) (operation side : ℕ) (s : Side) (low : operation < length i.operations) (side_is : Some s ≡ side_numbered side) where
+  there : is_some (slice_get i.operations operation) ≡ true
+  there = let o = item_at i.operations operation low in ap (λ (x : Option Operation). is_some x) o.1
+
+  pub side_there : is_side i operation side ≡ true
+  side_there = ap (λ (x : Option Side). is_some x && is_some (slice_get i.operations operation)) (sym side_is) ∙ there
+
+  pub stream_there : (order : ℕ) (r : Order) → Some r ≡ order_numbered order → is_stream i operation side order ≡ true
+  stream_there order r order_is =
+      ap (λ (x : Option Side). is_some x && (is_some (order_numbered order) && is_some (slice_get i.operations operation))) (sym side_is)
+      ∙ ap (λ (x : Option Order). is_some x && is_some (slice_get i.operations operation)) (sym order_is) ∙ there
+
+pub order_is : (order : ℕ) (r : Order) → Some r ≡ order_numbered order → is_some (order_numbered order) ≡ true
+order_is order r is = ap (λ (x : Option Order). is_some x) (sym is)
+
 positive : (n : ℕ) → (n ≡ 0 → ⊥) → 0 < n
 positive zero some = absurd (some refl)
 positive (suc n) some = omega arith
@@ -64,8 +79,8 @@ layout_is order chunk r is some = ap (λ (x : Option Order). is_some x && nat_lt
 
 -- ## What functions that are given numbers name
 
-pub ruleset no_values = (no_side, no_operation)
+pub ruleset no_values = (no_side, no_operation, side_there)
 
-pub ruleset no_stream = (no_stream_side, no_stream_order, no_stream_operation)
+pub ruleset no_stream = (no_stream_side, no_stream_order, no_stream_operation, stream_there)
 
 pub ruleset layouts = (no_layout_order, no_chunk, layout_is)

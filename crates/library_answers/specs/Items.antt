@@ -13,7 +13,7 @@ use Rattle.nd_value.specs.Fitting.{Fitting, setting_beside}
 use Rattle.library_handles.specs.declared.held.Held.{Held}
 use Rattle.library_handles.specs.declared.held.Held.TheVariants as kept
 use Rattle.library_values.specs.Logged.{IsLoggedOf}
-use Rattle.library_nodes.specs.Low.{low}
+use Rattle.library_types.specs.Low.{low}
 use Rattle.library_answers.specs.Answers.{OfSide, OfOrder}
 use Rattle.library_answers.specs.declared.items.ItemDescription.{ItemDescription}
 

@@ -6,5 +6,6 @@ pub mod Fragments
 pub mod Nodes
 pub mod Items
 pub mod Types
+pub mod Identity
 pub mod Versions
 pub mod Building

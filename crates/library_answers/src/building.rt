@@ -11,7 +11,7 @@ use crate::numbers::side_of;
 use crate::reading::{fill_values, is_request};
 use library_handles::Handle;
 use library_interface::Compiled;
-use library_nodes::{BuildFault, Listing, build, build_response};
+use library_nodes::{BuildFault, Listing, build, build_response, has_too_many};
 use library_values::Values;
 use std::alloc::Global;
 use std::rc::Rc;
@@ -35,11 +35,12 @@ pub fn build_values(
     ensures not_absent { result ≡ ABSENT → ⊥ }
     ensures built { result ≡ OK → IsSomeAnd (values_in values.new.value)
         (λ v. IsBuild compiled.now.value operation side listing.now v) }
-    ensures few { result ≡ OK → has_too_many listing.now ≡ false }
+    ensures few { (result ≡ ARGUMENT → ⊥) → has_too_many listing.now ≡ false }
     ensures refused { result ≡ REFUSED → IsSomeAnd (refusal_in fault.new.value)
         (λ e. IsBuildRefusal compiled.now.value operation side listing.now e) }
     ensures wrong { result ≡ WRONG_NODE → IsWrongNode compiled.now.value operation side listing.now node.new }
     ensures argument { result ≡ ARGUMENT → is_side compiled.now.value operation side ≡ true → has_too_many listing.now ≡ true }
+    ensures range { (result ≡ ARGUMENT → ⊥) → is_side compiled.now.value operation side ≡ true }
     ensures values_kept { (result ≡ OK → ⊥) → values.new.value ≡ values.old.value }
     ensures node_kept { (result ≡ WRONG_NODE → ⊥) → node.new ≡ node.old }
     ensures fault_kept { (result ≡ REFUSED → ⊥) → fault.new.value ≡ fault.old.value }
@@ -47,7 +48,7 @@ pub fn build_values(
     let Some(side) = side_of(side) else {
         return ARGUMENT;
     };
-    if operation as usize >= compiled.interface().operations.len() {
+    if operation as usize >= compiled.interface().operations.len() || has_too_many(listing) {
         return ARGUMENT;
     }
     match build(alloc, compiled, operation, side, listing) {
@@ -76,7 +77,7 @@ pub fn build_reply(
     ensures not_short { result ≡ SHORT → ⊥ }
     ensures not_absent { result ≡ ABSENT → ⊥ }
     ensures built { result ≡ OK → IsSomeAnd (values_in values.new.value) (λ v. IsBuiltReply given.now listing.now v) }
-    ensures few { result ≡ OK → has_too_many listing.now ≡ false }
+    ensures few { (result ≡ ARGUMENT → ⊥) → has_too_many listing.now ≡ false }
     ensures refused { result ≡ REFUSED → IsSomeAnd (refusal_in fault.new.value) (λ e. IsBuiltReplyRefusal given.now listing.now e) }
     ensures wrong { result ≡ WRONG_NODE → IsWrongReplyNode given.now listing.now node.new }
     ensures argument { result ≡ ARGUMENT → given.now.side ≡ In → has_too_many listing.now ≡ true }
@@ -85,7 +86,7 @@ pub fn build_reply(
     ensures node_kept { (result ≡ WRONG_NODE → ⊥) → node.new ≡ node.old }
     ensures fault_kept { (result ≡ REFUSED → ⊥) → fault.new.value ≡ fault.old.value }
 {
-    if !is_request(given) {
+    if !is_request(given) || has_too_many(listing) {
         return ARGUMENT;
     }
     // A fit is of an operation of its interface.

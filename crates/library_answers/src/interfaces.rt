@@ -10,7 +10,7 @@ ghost use Rattle.library_answers.specs.Compiling.{IsCompile, IsCompileRefusal, I
 use crate::answers::{ABSENT, ARGUMENT, EMPTY, MEMORY, OK, REFUSED, SHORT, fill, lay_out, refuse};
 use idl_grammar::{IdlFile, Language};
 use library_handles::{Handle, Held};
-use library_interface::{CompileFault, Compiled, File, compile_files};
+use library_interface::{CompileFault, Compiled, File, compile_files, has_bad_name};
 use std::alloc::Global;
 use std::rc::Rc;
 use std::str::from_utf8;
@@ -33,10 +33,13 @@ pub fn compile(
     ensures refused { result ≡ REFUSED → IsSomeAnd (refusal_in fault.new.value) (λ e. IsFilesRefusal language files.now acf e) }
     ensures argument { result ≡ ARGUMENT → acf < length files.now → HasBadName files.now }
     ensures there { (result ≡ ARGUMENT → ⊥) → acf < length files.now }
-    ensures named { result ≡ OK → HasBadName files.now → ⊥ }
+    ensures named { (result ≡ ARGUMENT → ⊥) → HasBadName files.now → ⊥ }
     ensures interface_kept { (result ≡ OK → ⊥) → interface.new.value ≡ interface.old.value }
     ensures fault_kept { (result ≡ REFUSED → ⊥) → fault.new.value ≡ fault.old.value }
 {
+    if has_bad_name(files) {
+        return ARGUMENT;
+    }
     let Some(name) = name_of(files, 0) else {
         return ARGUMENT;
     };

@@ -11,7 +11,7 @@ use crate::numbers::{order_of, side_of};
 use crate::reading::is_request;
 use library_handles::{Handle, Held};
 use library_interface::Compiled;
-use library_nodes::low;
+use library_types::low;
 use library_values::{Values, items_of, items_of_response};
 use nd_value::{Home, Item, ItemKind, ItemLog};
 use std::alloc::Global;
@@ -36,6 +36,7 @@ pub fn log_items(
     ensures refused { result ≡ REFUSED → IsSomeAnd (refusal_in fault.new.value)
         (λ e. IsDecodeRefusal compiled.now operation side order octets.now e) }
     ensures argument { result ≡ ARGUMENT → is_stream compiled.now operation side order ≡ false }
+    ensures range { (result ≡ ARGUMENT → ⊥) → is_stream compiled.now operation side order ≡ true }
     ensures items_kept { (result ≡ OK → ⊥) → items.new.value ≡ items.old.value }
     ensures fault_kept { (result ≡ REFUSED → ⊥) → fault.new.value ≡ fault.old.value }
 {
@@ -68,7 +69,7 @@ fn fill_items(alloc: Global, made: ItemLog, items: &mut Handle) -> u32
 }
 
 /// The same with the response to a request.
-#[tactic(auto, using(crate::proofs::Logs::response_items_are, crate::proofs::Octets::response_refused))]
+#[tactic(auto, using(crate::proofs::Numbered::order_is, crate::proofs::Logs::response_items_are, crate::proofs::Octets::response_refused))]
 pub fn log_response(
     alloc: Global,
     given: &Values,
@@ -83,6 +84,7 @@ pub fn log_response(
     ensures logged { result ≡ OK → IsSomeAnd (items_in items.new.value) (IsResponseItems given.now order octets.now) }
     ensures refused { result ≡ REFUSED → IsSomeAnd (refusal_in fault.new.value) (λ e. IsResponseRefusal given.now order octets.now e) }
     ensures argument { result ≡ ARGUMENT → is_some (order_numbered order) ≡ true → given.now.side ≡ Out }
+    ensures order { (result ≡ ARGUMENT → ⊥) → is_some (order_numbered order) ≡ true }
     ensures request { (result ≡ ARGUMENT → ⊥) → given.now.side ≡ In }
     ensures items_kept { (result ≡ OK → ⊥) → items.new.value ≡ items.old.value }
     ensures fault_kept { (result ≡ REFUSED → ⊥) → fault.new.value ≡ fault.old.value }

@@ -35,6 +35,7 @@ pub fn decode(
     ensures refused { result ≡ REFUSED → IsSomeAnd (refusal_in fault.new.value)
         (λ e. IsDecodeRefusal compiled.now.value operation side order octets.now e) }
     ensures argument { result ≡ ARGUMENT → is_stream compiled.now.value operation side order ≡ false }
+    ensures range { (result ≡ ARGUMENT → ⊥) → is_stream compiled.now.value operation side order ≡ true }
     ensures values_kept { (result ≡ OK → ⊥) → values.new.value ≡ values.old.value }
     ensures taken_kept { (result ≡ OK → ⊥) → taken.new ≡ taken.old }
     ensures fault_kept { (result ≡ REFUSED → ⊥) → fault.new.value ≡ fault.old.value }
@@ -77,7 +78,7 @@ fn fill_taken(alloc: Global, made: (Values, u32), values: &mut Handle, taken: &m
 }
 
 /// The same with the response to a request.
-#[tactic(auto, using(crate::proofs::Octets::response_is, crate::proofs::Octets::response_refused))]
+#[tactic(auto, using(crate::proofs::Numbered::order_is, crate::proofs::Octets::response_is, crate::proofs::Octets::response_refused))]
 pub fn decode_response(
     alloc: Global,
     given: &Values,
@@ -93,6 +94,7 @@ pub fn decode_response(
     ensures decoded { result ≡ OK → IsSomeAnd (values_in values.new.value) (λ v. IsResponse given.now order octets.now taken.new v) }
     ensures refused { result ≡ REFUSED → IsSomeAnd (refusal_in fault.new.value) (λ e. IsResponseRefusal given.now order octets.now e) }
     ensures argument { result ≡ ARGUMENT → is_some (order_numbered order) ≡ true → given.now.side ≡ Out }
+    ensures order { (result ≡ ARGUMENT → ⊥) → is_some (order_numbered order) ≡ true }
     ensures request { (result ≡ ARGUMENT → ⊥) → given.now.side ≡ In }
     ensures values_kept { (result ≡ OK → ⊥) → values.new.value ≡ values.old.value }
     ensures taken_kept { (result ≡ OK → ⊥) → taken.new ≡ taken.old }
@@ -139,6 +141,7 @@ pub fn read(
     ensures refused { result ≡ REFUSED → IsSomeAnd (refusal_in fault.new.value)
         (λ e. IsReadRefusal compiled.now.value operation side text.now e) }
     ensures argument { result ≡ ARGUMENT → is_side compiled.now.value operation side ≡ false }
+    ensures range { (result ≡ ARGUMENT → ⊥) → is_side compiled.now.value operation side ≡ true }
     ensures values_kept { (result ≡ OK → ⊥) → values.new.value ≡ values.old.value }
     ensures fault_kept { (result ≡ REFUSED → ⊥) → fault.new.value ≡ fault.old.value }
 {

@@ -1,15 +1,35 @@
-// Roots, members and their types.
-ghost use Rattle.std.specs.Prelude.{◌≡◌, ◌≤◌, Some, None, false, option_map};
+// Types; roots and members by name.
+ghost use Rattle.std.specs.Prelude.{◌≡◌, ◌≤◌, Some, None, false, option_map, IsSomeAnd};
 ghost use Rattle.nd_types.specs.Table.{type_at};
-ghost use Rattle.library_values.specs.Finding.{element_of};
+ghost use Rattle.library_types.specs.Described.{type_described};
+ghost use Rattle.library_types.specs.Finding.{element_of};
 ghost use Rattle.library_answers.specs.Answers.{is_side};
 ghost use Rattle.library_answers.specs.Types.{IsRoot, HasNoRootNamed, IsMember, members_of, HasNoMemberNamed};
 
 use crate::answers::{ABSENT, ARGUMENT, EMPTY, MEMORY, OK, REFUSED, SHORT};
 use crate::numbers::side_of;
 use library_interface::Compiled;
-use library_values::{Named, element_type, member_named, root_named};
+use library_types::{
+    Named, TypeDescription, describe_type, element_type, member_named, root_named,
+};
 use nd_types::{Fields, TypeDef, TypeId, Types};
+
+/// What a type is, by its number. Takes no memory.
+pub fn set_type(compiled: &Compiled, of: u32, about: &mut TypeDescription) -> u32
+    ensures known { result ≤ ARGUMENT }
+    ensures not_empty { result ≡ EMPTY → ⊥ }
+    ensures described { result ≡ OK → IsSomeAnd (type_at compiled.now.types of) (λ d. about.new ≡ type_described d) }
+    ensures argument { result ≡ ARGUMENT → type_at compiled.now.types of ≡ None }
+    ensures about_kept { (result ≡ OK → ⊥) → about.new ≡ about.old }
+{
+    match describe_type(compiled.interface(), of) {
+        Some(found) => {
+            *about = found;
+            OK
+        }
+        None => ARGUMENT,
+    }
+}
 
 /// The number of a root of a side of an operation by its name, and its type. Takes no memory.
 #[tactic(auto, using(crate::proofs::Numbered::no_side, crate::proofs::Numbered::no_operation, crate::proofs::Named::no_root))]

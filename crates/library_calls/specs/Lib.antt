@@ -4,4 +4,5 @@ pub mod Versions
 pub mod Reasons
 pub mod Causes
 pub mod Names
+pub mod Words
 pub mod Halves

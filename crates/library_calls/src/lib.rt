@@ -11,6 +11,7 @@ mod names;
 mod reasons;
 mod values;
 mod wide;
+mod words;
 
 pub use causes::{Cause, cause_of};
 pub use comparing::compare_versions;
@@ -18,3 +19,4 @@ pub use joining::join_lent;
 pub use labels::order_stated;
 pub use names::{file, name};
 pub use wide::Wide;
+pub use words::reason_word;

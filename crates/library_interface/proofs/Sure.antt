@@ -82,6 +82,24 @@ bad_left files i name text named written good bad =
     let next : i + 1 ≡ suc i = omega arith in
     subst (λ (k : ℕ). HasBadName (drop k files)) (sym next) (past_good files i f.0 f.1 (subst (λ (n : List ℕ). IsUtf8 n) (sym f.2) good) bad)
 
+named_file : (files : List File) (i : ℕ) (name : List ℕ) (x : Option File) → slice_get files i ≡ x → option_map (λ (f : File). f.name.now) x ≡ Some name
+    → (f : File) × (slice_get files i ≡ Some f) × (f.name.now ≡ name)
+named_file files i name None there named = cc
+named_file files i name (Some f) there named = (f, there, same_Some _ _ named)
+
+-- the same of a name that was looked at alone
+pub name_left : (files : List File) (i : ℕ) (name : List ℕ) → option_map (λ (f : File). f.name.now) (slice_get files i) ≡ Some name → IsUtf8 name → HasBadName (drop i files)
+    → HasBadName (drop (i + 1) files)
+name_left files i name named good bad =
+    let f = named_file files i name (slice_get files i) refl named in
+    let next : i + 1 ≡ suc i = omega arith in
+    subst (λ (k : ℕ). HasBadName (drop k files)) (sym next) (past_good files i f.0 f.1 (subst (λ (n : List ℕ). IsUtf8 n) (sym f.2) good) bad)
+
+pub bad_named : (files : List File) (i : ℕ) (name : List ℕ) → option_map (λ (f : File). f.name.now) (slice_get files i) ≡ Some name → (IsUtf8 name → ⊥) → HasBadName files
+bad_named files i name named bad =
+    let f = named_file files i name (slice_get files i) refl named in
+    record { place = i; file = f.0; there = f.1; not_text = λ utf8. bad (subst (λ (n : List ℕ). IsUtf8 n) f.2 utf8) }
+
 none_there : (k : ℕ) (f : File) → slice_get [] k ≡ Some f → ⊥
 none_there k f is = cc
 

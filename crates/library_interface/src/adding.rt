@@ -1,5 +1,5 @@
 // Files are added to files in memory.
-ghost use Rattle.std.specs.Prelude.{◌≡◌, ◌<◌, ℕ, List, length, option_map, Some, OnOk, IsErrOf, IsUtf8};
+ghost use Rattle.std.specs.Prelude.{◌≡◌, ◌<◌, ℕ, List, length, option_map, Some, true, false, OnOk, IsErrOf, IsUtf8};
 ghost use Rattle.std.specs.List.{slice_get};
 ghost use Rattle.nd_base.specs.InMemory.{content_of, entries_of, files_calls, with_file};
 ghost use Rattle.library_interface.specs.Named.{named_after, HasBadName};
@@ -9,6 +9,30 @@ use crate::file::File;
 use crate::lend_fault::LendFault;
 use nd_base::MemFiles;
 use std::str::from_utf8;
+
+/// Whether the name of a file is not UTF-8. Takes no memory.
+pub fn has_bad_name(files: &[File<'_>]) -> bool
+    ensures yes { result ≡ true → HasBadName files.now }
+    ensures no { result ≡ false → HasBadName files.now → ⊥ }
+{
+    for at in 0..files.len() {
+        if is_bad(name_at(files, at)) {
+            return true;
+        }
+    }
+    false
+}
+
+// Whether a name is not UTF-8.
+fn is_bad(name: &[u8]) -> bool
+    ensures yes { result ≡ true → IsUtf8 name.now → ⊥ }
+    ensures no { result ≡ false → IsUtf8 name.now }
+{
+    match from_utf8(name) {
+        Ok(_) => false,
+        Err(_) => true,
+    }
+}
 
 // Adds files, one after the other.
 pub(crate) fn add_all(taken: &mut MemFiles, files: &[File<'_>]) -> Result<(), LendFault>

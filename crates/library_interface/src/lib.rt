@@ -10,6 +10,7 @@ mod file;
 mod files;
 mod lend_fault;
 
+pub use adding::has_bad_name;
 pub use compiled::Compiled;
 pub use compiling::compile_files;
 pub use fault::CompileFault;

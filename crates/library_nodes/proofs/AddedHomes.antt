@@ -4,7 +4,7 @@ use Rattle.std.proofs.Common.{◌≡◌, ℕ, suc, ◌+◌, ◌<◌, List, [], �
 use Rattle.std.proofs.lemmas.List.{append-nil, map-append, take_at}
 use Rattle.nd_value.specs.declared.value.Graph.{Graph}
 use Rattle.nd_value.specs.Setting.{root_at, cell_at, or_unread, cell_tree}
-use Rattle.nd_value.specs.Tree.{Tree, Referent, Flat, flat, more, none, trees}
+use Rattle.nd_value.specs.Tree.{Tree, Trees, Referent, Flat, flat, more, none, trees}
 use Rattle.nd_flat.proofs.Forests.{flat-more}
 use Rattle.nd_lemmas.proofs.Lists.{item_at, take_next}
 use Rattle.library_nodes.specs.declared.node.Node.{Node}
@@ -12,9 +12,11 @@ use Rattle.library_nodes.specs.declared.nodes.NodeList.{NodeList}
 use Rattle.library_nodes.specs.declared.nodes.Nodes.{Nodes}
 use Rattle.library_nodes.specs.Low.{low_flat, low_flats}
 use Rattle.library_nodes.specs.Said.{flats_said, SaysFirst}
+use Rattle.library_nodes.specs.Gathered.{AreGathered}
 use Rattle.library_nodes.specs.Listed.{ArePaired, Begins, AreSaid, AreLaid, IsListOf, home_trees}
 use Rattle.library_nodes.specs.Laying.{Grows, Adds, BeginsEver, IsFront, AddsHomes}
 use Rattle.library_nodes.proofs.Adding.{said_append, grows_none, grows_then}
+use Rattle.library_nodes.proofs.Gathered.{gathered_append, after_whole, values_whole}
 
 -- ## Pairs
 
@@ -160,8 +162,13 @@ begins_added a b t h ns zs os =
       first = ap (λ xs. flats_said p q xs) e ∙ said_append p q h.grows.nodes ns ∙ ap (λ xs. xs ++ flats_said p q ns) (h.say zs os);
     }
 
+-- nodes that follow those of values
+gathered_both : (vs : Trees) (b : NodeList) (ms ns : List Node) → ((zs os : List ℕ) → flats_said (b.numbers.items ++ zs) (b.octets ++ os) ms ≡ low_flats (flat vs))
+    → AreGathered ms → AreGathered ns → AreGathered (ms ++ ns)
+gathered_both vs b ms ns say g h = gathered_append ms ns g h (after_whole ms ns (values_whole vs _ _ ms (say [] []) g) g)
+
 pub homes_none : (a : NodeList) (ss : List ℕ) → AddsHomes [] a ss a ss
-homes_none a ss = record { grows = grows_none a; new = []; starts = sym (append-nil ss); begin = tt; fronts = tt; say = λ zs os. refl }
+homes_none a ss = record { grows = grows_none a; new = []; starts = sym (append-nil ss); begin = tt; fronts = tt; say = λ zs os. refl; gathered = tt }
 
 -- one value more
 pub homes_more : (ts us : List Tree) (t : Tree) (a b c : NodeList) (ss rs qs : List ℕ) → us ≡ ts ++ t ∷ [] → AddsHomes ts a ss b rs → qs ≡ rs ++ length b.nodes.items ∷ []
@@ -182,6 +189,7 @@ homes_more ts us t a b c ss rs qs eu h eq ad = record {
       subst (λ (vs : List Tree). flats_said (c.numbers.items ++ zs) (c.octets ++ os) (h.grows.nodes ++ ad.grows.nodes) ≡ low_flats (flat (trees vs))) (sym eu)
       (said_both (c.numbers.items ++ zs) (c.octets ++ os) h.grows.nodes ad.grows.nodes ts (t ∷ [])
       (said_later b c ad.grows h.grows.nodes (low_flats (flat (trees ts))) h.say zs os) (ad.say zs os));
+  gathered = gathered_both (trees ts) b h.grows.nodes ad.grows.nodes h.say h.gathered ad.gathered;
 }
 
 -- ## All values of a graph
@@ -223,6 +231,8 @@ listed g n a b ss rs qs empty e h k es er =
           (λ zs os.
           said_both (n.list.numbers.items ++ zs) (n.list.octets ++ os) h.grows.nodes k.grows.nodes g.roots cells
           (said_later b n.list k.grows h.grows.nodes (low_flats (flat (trees g.roots))) h.say zs os) (k.say zs os)));
+      gathered =
+          subst (λ (ns : List Node). AreGathered ns) (sym added) (gathered_both (trees g.roots) b h.grows.nodes k.grows.nodes h.say h.gathered k.gathered);
     }
 
 -- ## One root or cell more

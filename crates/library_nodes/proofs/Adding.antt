@@ -1,9 +1,10 @@
 -- Nodes are added to a list, and say what they do whatever is added after them.
 -- `a`, `b`, `c` are lists of nodes one after the other, `fs` are the nodes of values, `ns` nodes, `n` is a node, `z` a number.
-use Rattle.std.proofs.Common.{◌≡◌, ℕ, zero, suc, ◌+◌, ℤ, Bool, true, false, List, [], ◌∷◌, ◌++◌, map, length, take, drop, Option, Some, None, option_map}
+use Rattle.std.proofs.Common.{◌≡◌, ℕ, zero, suc, ◌+◌, ◌≤◌, ◌<◌, ℤ, Bool, true, false, List, [], ◌∷◌, ◌++◌, map, length, take, drop, Option, Some, None, option_map}
 use Rattle.std.proofs.Common.{refl, ap, ap₂, sym, ◌∙◌, arith, append_assoc, subst, nat_lt}
 use Rattle.std.specs.Prelude.{option_to_list, if◌then◌else◌}
 use Rattle.std.proofs.lemmas.List.{append-nil, map-append}
+use Rattle.std.proofs.lemmas.Bool.{ltb-true}
 use Rattle.std.proofs.lemmas.Option.{same_Some}
 use Rattle.nd_value.specs.Tree as tree
 use Rattle.nd_value.specs.Tree.{Flat}
@@ -11,9 +12,12 @@ use Rattle.library_nodes.specs.declared.node.Elements.{Elements}
 use Rattle.library_nodes.specs.declared.node.Node.{Node}
 use Rattle.library_nodes.specs.declared.node.Node.TheVariants as node
 use Rattle.library_nodes.specs.declared.nodes.NodeList.{NodeList}
-use Rattle.library_nodes.specs.Low.{low, low_flat, low_flats}
+use Rattle.library_types.specs.Low.{low}
+use Rattle.library_nodes.specs.Low.{low_flat, low_flats}
 use Rattle.library_nodes.specs.Said.{number_flat, number_flats, node_flats, flats_said}
-use Rattle.library_nodes.specs.Laying.{Grows, Adds, AddsOpen, AreLast, one_more, more_numbers}
+use Rattle.library_nodes.specs.Gathered.{elements_of, is_number, IsGathered, AreGathered}
+use Rattle.library_nodes.specs.Laying.{Grows, Adds, AddsOpen, AreLast, EndsWhole, lacking, one_more, more_numbers}
+use Rattle.library_nodes.proofs.Gathered.{LastGathered, gathered_append, after_any, after_whole, last_changed, ends_with, none_lacking, full_whole}
 
 -- ## What nodes say
 
@@ -60,29 +64,33 @@ grown a b c ns zs os g en ez eo =
 -- ## Nothing yet, and all
 
 pub open_none : (a : NodeList) → AddsOpen [] a a None
-open_none a = record { grows = grows_none a; last = tt; say = λ zs os. refl }
-
-pub adds_none : (a : NodeList) → Adds [] a a
-adds_none a = record { grows = grows_none a; say = λ zs os. refl }
+open_none a = record { grows = grows_none a; last = tt; say = λ zs os. refl; gathered = tt; settled = tt }
 
 -- the node that was open is added
-pub closed : (fs : List Flat) (a b c : NodeList) (o : Option Node) → c.nodes.items ≡ b.nodes.items ++ option_to_list o → c.numbers.items ≡ b.numbers.items → c.octets ≡ b.octets
+abbrev pub closed : (fs : List Flat) (a b c : NodeList) (o : Option Node) → c.nodes.items ≡ b.nodes.items ++ option_to_list o → c.numbers.items ≡ b.numbers.items → c.octets ≡ b.octets
     → AddsOpen fs a b o → Adds fs a c
 closed fs a b c o en ez eo h = record {
   grows = grown a b c (option_to_list o) [] [] h.grows en (ez ∙ sym (append-nil b.numbers.items)) (eo ∙ sym (append-nil b.octets));
   say = λ zs os. ap₂ (λ p q. flats_said (p ++ zs) (q ++ os) (h.grows.nodes ++ option_to_list o)) ez eo ∙ h.say zs os;
+  gathered = h.gathered;
 }
 
 -- ## One node more
 
 -- a node that is not open
 pub plain_more : (fs : List Flat) (f : Flat) (n : Node) (a b c : NodeList) (more : List ℕ) → c.nodes.items ≡ b.nodes.items ++ n ∷ [] → c.numbers.items ≡ b.numbers.items
-    → c.octets ≡ b.octets ++ more → ((zs os : List ℕ) → node_flats zs (c.octets ++ os) n ≡ low_flat f ∷ []) → Adds fs a b → AddsOpen (fs ++ f ∷ []) a c None
-plain_more fs f n a b c more en ez eo says h =
+    → c.octets ≡ b.octets ++ more → ((zs os : List ℕ) → node_flats zs (c.octets ++ os) n ≡ low_flat f ∷ []) → elements_of n ≡ None → (h : Adds fs a b)
+    → LastGathered h.grows.nodes (n ∷ []) → AddsOpen (fs ++ f ∷ []) a c None
+plain_more fs f n a b c more en ez eo says plain h after =
     let ns = h.grows.nodes in
+    let none = none_lacking n plain in
     record {
       grows = grown a b c (n ∷ []) [] more h.grows en (ez ∙ sym (append-nil b.numbers.items)) eo;
       last = tt;
+      gathered =
+          subst (λ (ms : List Node). AreGathered ms) (sym (append-nil (ns ++ n ∷ [])))
+          (gathered_append ns (n ∷ []) h.gathered (none.1, tt) after);
+      settled = ends_with ns n none.0;
       say = λ zs os.
           ap (λ xs. flats_said (c.numbers.items ++ zs) (c.octets ++ os) xs) (append-nil (ns ++ n ∷ []))
           ∙ said_more (c.numbers.items ++ zs) (c.octets ++ os) ns n
@@ -94,16 +102,21 @@ plain_more fs f n a b c more en ez eo says h =
 
 -- a node by itself
 pub alone : (f : Flat) (n : Node) (a c : NodeList) (more : List ℕ) → c.nodes.items ≡ a.nodes.items ++ n ∷ [] → c.numbers.items ≡ a.numbers.items
-    → c.octets ≡ a.octets ++ more → ((zs os : List ℕ) → node_flats zs (c.octets ++ os) n ≡ low_flat f ∷ []) → Adds (f ∷ []) a c
-alone f n a c more en ez eo says =
-    closed (f ∷ []) a c c None (sym (append-nil c.nodes.items)) refl refl (plain_more [] f n a a c more en ez eo says (adds_none a))
+    → c.octets ≡ a.octets ++ more → ((zs os : List ℕ) → node_flats zs (c.octets ++ os) n ≡ low_flat f ∷ []) → IsGathered (elements_of n) [] → Adds (f ∷ []) a c
+alone f n a c more en ez eo says gathered = record {
+  grows = grown a a c (n ∷ []) [] more (grows_none a) en (ez ∙ sym (append-nil a.numbers.items)) eo;
+  say = λ zs os. append-nil (node_flats (c.numbers.items ++ zs) (c.octets ++ os) n) ∙ says (c.numbers.items ++ zs) os;
+  gathered = (gathered, tt);
+}
 
 -- an array or a pipe is open, none of whose elements is a number yet
-pub opened : (fs : List Flat) (f : Flat) (n : Node) (a b : NodeList) → AreLast b.numbers.items (Some n) → ((zs os : List ℕ) → node_flats zs os n ≡ low_flat f ∷ []) → Adds fs a b
-    → AddsOpen (fs ++ f ∷ []) a b (Some n)
-opened fs f n a b last says h = record {
+pub opened : (fs : List Flat) (f : Flat) (n : Node) (a b : NodeList) → AreLast b.numbers.items (Some n) → ((zs os : List ℕ) → node_flats zs os n ≡ low_flat f ∷ [])
+    → is_number n ≡ false → IsGathered (elements_of n) [] → Adds fs a b → AddsOpen (fs ++ f ∷ []) a b (Some n)
+opened fs f n a b last says other gathered h = record {
   grows = h.grows;
   last = last;
+  gathered = gathered_append h.grows.nodes (n ∷ []) h.gathered (gathered, tt) (after_any h.grows.nodes n [] other h.gathered);
+  settled = tt;
   say = λ zs os.
       let p = b.numbers.items ++ zs in
       let q = b.octets ++ os in
@@ -116,14 +129,14 @@ pub array_opened : (fs : List Flat) (max offset count : ℕ) (e : Elements) (xs 
 array_opened fs max offset count e xs a b is same h =
     subst (λ (d : Elements). AddsOpen (fs ++ (tree.Arr max offset, count) ∷ []) a b (Some (node.Array max offset d))) (sym is)
     (opened fs (tree.Arr max offset, count) (node.Array max offset (record { count = count; numbers = 0; from = length xs })) a b
-    (let l : length xs ≡ length b.numbers.items = ap length same in omega (arith, l)) (λ zs os. refl) h)
+    (let l : length xs ≡ length b.numbers.items = ap length same in omega (arith, l)) (λ zs os. refl) refl (omega arith, λ less. refl) h)
 
 pub pipe_opened : (fs : List Flat) (count : ℕ) (e : Elements) (xs : List ℕ) (a b : NodeList) → e ≡ record { count = count; numbers = 0; from = length xs } → xs ≡ b.numbers.items
     → Adds fs a b → AddsOpen (fs ++ (tree.Pipe, count) ∷ []) a b (Some (node.Pipe e))
 pipe_opened fs count e xs a b is same h =
     subst (λ (d : Elements). AddsOpen (fs ++ (tree.Pipe, count) ∷ []) a b (Some (node.Pipe d))) (sym is)
     (opened fs (tree.Pipe, count) (node.Pipe (record { count = count; numbers = 0; from = length xs })) a b
-    (let l : length xs ≡ length b.numbers.items = ap length same in omega (arith, l)) (λ zs os. refl) h)
+    (let l : length xs ≡ length b.numbers.items = ap length same in omega (arith, l)) (λ zs os. refl) refl (omega arith, λ less. refl) h)
 
 -- ## One number more
 
@@ -149,6 +162,8 @@ elements_more xs ys y e d en ef l =
 record SaysMore (xs : List ℕ) (y : ℕ) (m n : Node) : Type 0 where
   last : AreLast (xs ++ y ∷ []) (Some n)
   say : (ys os : List ℕ) → node_flats ((xs ++ y ∷ []) ++ ys) os n ≡ node_flats (xs ++ (y ∷ ys)) os m ++ number_flat y ∷ []
+  other : is_number m ≡ is_number n
+  gathered : IsGathered (elements_of n) []
 
 one_longer : (xs : List ℕ) (y : ℕ) → length (xs ++ y ∷ []) ≡ length xs + 1
 one_longer [] y = refl
@@ -158,9 +173,15 @@ abbrev with_one : Elements → Elements
 with_one e = record { count = e.count; numbers = e.numbers + 1; from = e.from }
 
 more_is : (e d : Elements) (b : Bool) → (if b then Some (with_one e) else None) ≡ Some d
-    → (d.count ≡ e.count) × (d.numbers ≡ e.numbers + 1) × (d.from ≡ e.from)
-more_is e d true is = let s = same_Some _ _ is in (sym (ap (λ (x : Elements). x.count) s), sym (ap (λ (x : Elements). x.numbers) s), sym (ap (λ (x : Elements). x.from) s))
+    → (d.count ≡ e.count) × (d.numbers ≡ e.numbers + 1) × (d.from ≡ e.from) × (b ≡ true)
+more_is e d true is =
+    let s = same_Some _ _ is in
+    (sym (ap (λ (x : Elements). x.count) s), sym (ap (λ (x : Elements). x.numbers) s), sym (ap (λ (x : Elements). x.from) s), refl)
 more_is e d false is = cc
+
+-- with one more there are no more than elements
+still_few : (e d : Elements) → d.count ≡ e.count → d.numbers ≡ e.numbers + 1 → nat_lt e.numbers e.count ≡ true → (d.numbers ≤ d.count) × (d.numbers < d.count → false ≡ false)
+still_few e d count numbers less = let l : e.numbers < e.count = ltb-true e.numbers e.count less in (omega (arith, count, numbers, l), λ fewer. refl)
 
 mapped_is : (A : Type 0) (f : Elements → A) (o : Option Elements) (y : A) → option_map f o ≡ Some y → (d : Elements) × (o ≡ Some d) × (f d ≡ y)
 mapped_is A f None y is = cc
@@ -180,6 +201,8 @@ says_more xs y (node.Array max offset e) n is last =
     (record {
       last = let l : e.from + e.numbers ≡ length xs = last in omega (arith, l, one_longer xs y, h.1, h.2);
       say = λ ys os. ap₂ (λ p q. (tree.Arr max offset, p) ∷ q) h.0 (elements_more xs ys y e d.0 h.1 h.2 last);
+      other = refl;
+      gathered = still_few e d.0 h.0 h.1 h.3;
     })
 says_more xs y (node.Pipe e) n is last =
     let d = mapped_is Node (λ x. node.Pipe x) (more_numbers e) n is in
@@ -188,6 +211,8 @@ says_more xs y (node.Pipe e) n is last =
     (record {
       last = let l : e.from + e.numbers ≡ length xs = last in omega (arith, l, one_longer xs y, h.1, h.2);
       say = λ ys os. ap₂ (λ p q. (tree.Pipe, p) ∷ q) h.0 (elements_more xs ys y e d.0 h.1 h.2 last);
+      other = refl;
+      gathered = still_few e d.0 h.0 h.1 h.3;
     })
 
 none_more : (n : Node) → one_more None ≡ Some n → ⊥
@@ -204,6 +229,9 @@ number_more fs z u (Some m) n a b c is same en ez eo h =
     record {
       grows = grown a b c [] (u ∷ []) [] h.grows (en ∙ sym (append-nil b.nodes.items)) ez (eo ∙ sym (append-nil b.octets));
       last = subst (λ ys. AreLast ys (Some n)) (sym ez) s.last;
+      gathered =
+          subst (λ (ms : List Node). AreGathered (ms ++ n ∷ [])) (sym (append-nil ns)) (last_changed ns m n s.other s.gathered h.gathered);
+      settled = tt;
       say = λ zs os.
           let q = c.octets ++ os in
           let e : c.numbers.items ++ zs ≡ xs ++ (u ∷ zs) = ap (λ ys. ys ++ zs) ez ∙ append_assoc xs (u ∷ []) zs in

@@ -1,3 +1,4 @@
+mod Gathered
 mod Adding
 mod Many
 mod Walked

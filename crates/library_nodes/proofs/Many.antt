@@ -1,6 +1,6 @@
 -- Numbers that are elements of an array or a pipe are added in one go.
 -- `xs` are the numbers that are listed, `us` those that are added, `ys` any after them, `k` is how many are added; `zs` are the numbers of a row.
-use Rattle.std.proofs.Common.{◌≡◌, ◌≤◌, ◌<◌, ℕ, zero, suc, ◌+◌, ℤ, List, [], ◌∷◌, ◌++◌, map, length, take, drop, Option, Some, None}
+use Rattle.std.proofs.Common.{◌≡◌, ◌≤◌, ◌<◌, ℕ, zero, suc, ◌+◌, ◌-◌, ℤ, List, [], ◌∷◌, ◌++◌, map, length, take, drop, Option, Some, None}
 use Rattle.std.proofs.Common.{refl, ap, ap₂, sym, ◌∙◌, arith, append_assoc, subst}
 use Rattle.std.proofs.lemmas.List.{append-nil, map-append, length-map, drop-drop}
 use Rattle.nd_base.specs.declared.octets.Order.{Order}
@@ -15,10 +15,13 @@ use Rattle.library_nodes.specs.declared.node.Elements.{Elements}
 use Rattle.library_nodes.specs.declared.node.Node.{Node}
 use Rattle.library_nodes.specs.declared.node.Node.TheVariants as node
 use Rattle.library_nodes.specs.declared.nodes.NodeList.{NodeList}
-use Rattle.library_nodes.specs.Low.{low, low_flat, low_flats}
+use Rattle.library_types.specs.Low.{low}
+use Rattle.library_nodes.specs.Low.{low_flat, low_flats}
 use Rattle.library_nodes.specs.Said.{number_flat, number_flats, node_flats, flats_said}
+use Rattle.library_nodes.specs.Gathered.{elements_of, is_number, IsGathered, AreGathered}
 use Rattle.library_nodes.specs.Laying.{AddsOpen, AreLast, lacking, longer, with_more}
 use Rattle.library_nodes.proofs.Adding.{said_more, grown}
+use Rattle.library_nodes.proofs.Gathered.{last_changed}
 
 -- ## Numbers
 
@@ -67,21 +70,28 @@ many_longer (x ∷ xs) us = let e : length (xs ++ us) ≡ length xs + length us 
 -- what many numbers more say of a node
 record SaysMany (xs us : List ℕ) (m n : Node) : Type 0 where
   last : AreLast (xs ++ us) (Some n)
+  other : is_number m ≡ is_number n
+  gathered : IsGathered (elements_of n) []
   say : (ys os : List ℕ) → node_flats ((xs ++ us) ++ ys) os n ≡ node_flats (xs ++ (us ++ ys)) os m ++ map number_flat us
 
 last_longer : (xs us : List ℕ) (e : Elements) (k : ℕ) → k ≡ length us → e.from + e.numbers ≡ length xs → e.from + (e.numbers + k) ≡ length (xs ++ us)
 last_longer xs us e k is l = omega (arith, is, l, many_longer xs us)
 
-array_many : (xs us : List ℕ) (max offset : ℕ) (e : Elements) (k : ℕ) → k ≡ length us → e.from + e.numbers ≡ length xs
+array_many : (xs us : List ℕ) (max offset : ℕ) (e : Elements) (k : ℕ) → k ≡ length us → 0 < k → k ≤ e.count - e.numbers → e.from + e.numbers ≡ length xs
     → SaysMany xs us (node.Array max offset e) (node.Array max offset (longer k e))
-array_many xs us max offset e k is l = record {
+array_many xs us max offset e k is some fits l = record {
   last = last_longer xs us e k is l;
+  other = refl;
+  gathered = (omega (arith, some, fits), λ less. refl);
   say = λ ys os. ap (λ fs. (tree.Arr max offset, e.count) ∷ fs) (many_elements xs us ys e k is l);
 }
 
-pipe_many : (xs us : List ℕ) (e : Elements) (k : ℕ) → k ≡ length us → e.from + e.numbers ≡ length xs → SaysMany xs us (node.Pipe e) (node.Pipe (longer k e))
-pipe_many xs us e k is l = record {
+pipe_many : (xs us : List ℕ) (e : Elements) (k : ℕ) → k ≡ length us → 0 < k → k ≤ e.count - e.numbers → e.from + e.numbers ≡ length xs
+    → SaysMany xs us (node.Pipe e) (node.Pipe (longer k e))
+pipe_many xs us e k is some fits l = record {
   last = last_longer xs us e k is l;
+  other = refl;
+  gathered = (omega (arith, some, fits), λ less. refl);
   say = λ ys os. ap (λ fs. (tree.Pipe, e.count) ∷ fs) (many_elements xs us ys e k is l);
 }
 
@@ -94,6 +104,8 @@ module _ (fs : List Flat) (zs : List ℤ) (us : List ℕ) (a b c : NodeList) (sa
       record {
         grows = grown a b c [] us [] h.grows (en ∙ sym (append-nil b.nodes.items)) ez (eo ∙ sym (append-nil b.octets));
         last = subst (λ ys. AreLast ys (Some n)) (sym ez) s.last;
+        gathered = subst (λ (ms : List Node). AreGathered (ms ++ n ∷ [])) (sym (append-nil ns)) (last_changed ns m n s.other s.gathered h.gathered);
+        settled = tt;
         say = λ ys os.
             let q = c.octets ++ os in
             let e : c.numbers.items ++ ys ≡ xs ++ (us ++ ys) = ap (λ vs. vs ++ ys) ez ∙ append_assoc xs us ys in
@@ -117,8 +129,8 @@ module _ (fs : List Flat) (zs : List ℤ) (us : List ℕ) (a b c : NodeList) (sa
   numbers_many k (Some (node.Pointer cell)) is some fits h = absurd (omega (arith, some, fits))
   numbers_many k (Some (node.Context attributes id)) is some fits h = absurd (omega (arith, some, fits))
   numbers_many k (Some (node.Array max offset e)) is some fits h =
-      said_many (node.Array max offset e) (node.Array max offset (longer k e)) (array_many b.numbers.items us max offset e k is h.last) h
-  numbers_many k (Some (node.Pipe e)) is some fits h = said_many (node.Pipe e) (node.Pipe (longer k e)) (pipe_many b.numbers.items us e k is h.last) h
+      said_many (node.Array max offset e) (node.Array max offset (longer k e)) (array_many b.numbers.items us max offset e k is some fits h.last) h
+  numbers_many k (Some (node.Pipe e)) is some fits h = said_many (node.Pipe e) (node.Pipe (longer k e)) (pipe_many b.numbers.items us e k is some fits h.last) h
 
 -- ## The numbers of a row
 

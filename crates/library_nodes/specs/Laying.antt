@@ -1,6 +1,6 @@
 -- What is added to a list of nodes.
 -- `a` is a list before, `b` after it, `fs` are the nodes of values, `ss` numbers of nodes, `ts` trees, `xs` numbers of elements.
-use Rattle.std.specs.Prelude.{◌≡◌, ℕ, ◌+◌, ◌-◌, List, [], ◌++◌, length, Option, Some, None, option_map, option_to_list, if◌then◌else◌, nat_lt}
+use Rattle.std.specs.Prelude.{◌≡◌, ℕ, ◌+◌, ◌-◌, List, [], ◌∷◌, ◌++◌, length, Option, Some, None, option_map, option_to_list, if◌then◌else◌, nat_lt}
 use Rattle.nd_value.specs.Tree.{Tree, Flat, flat, trees}
 use Rattle.library_nodes.specs.declared.node.Elements.{Elements}
 use Rattle.library_nodes.specs.declared.node.Node.{Node}
@@ -8,6 +8,7 @@ use Rattle.library_nodes.specs.declared.node.Node.TheVariants.{Array, Pipe}
 use Rattle.library_nodes.specs.declared.nodes.NodeList.{NodeList}
 use Rattle.library_nodes.specs.Low.{low_flats}
 use Rattle.library_nodes.specs.Said.{flats_said, SaysFirst}
+use Rattle.library_nodes.specs.Gathered.{AreGathered}
 use Rattle.library_nodes.specs.Listed.{ArePaired, AreLaid}
 
 -- Nothing that was there changes.
@@ -23,6 +24,7 @@ pub record Grows (a b : NodeList) : Type 0 where
 pub record Adds (fs : List Flat) (a b : NodeList) : Type 0 where
   pub grows : Grows a b
   pub say : (zs os : List ℕ) → flats_said (b.numbers.items ++ zs) (b.octets ++ os) grows.nodes ≡ low_flats fs
+  pub gathered : AreGathered grows.nodes
 
 -- ## Arrays and pipes that are open
 
@@ -57,11 +59,24 @@ AreLast xs (Some (Array max offset e)) = e.from + e.numbers ≡ length xs
 AreLast xs (Some (Pipe e)) = e.from + e.numbers ≡ length xs
 AreLast xs _ = Unit {0}
 
+-- the elements of the last node are all among the numbers, if it has any
+abbrev pub EndsWhole : List Node → Type 0
+EndsWhole [] = Unit {0}
+EndsWhole (n ∷ []) = lacking (Some n) ≡ 0
+EndsWhole (n ∷ m ∷ ns) = EndsWhole (m ∷ ns)
+
+-- so it is where none is open
+abbrev pub IsSettled : Option Node → List Node → Type 0
+IsSettled (Some n) ns = Unit {0}
+IsSettled None ns = EndsWhole ns
+
 -- The nodes that are added and the one that is open say these, whatever is added after them.
 pub record AddsOpen (fs : List Flat) (a b : NodeList) (open_node : Option Node) : Type 0 where
   pub grows : Grows a b
   pub last : AreLast b.numbers.items open_node
   pub say : (zs os : List ℕ) → flats_said (b.numbers.items ++ zs) (b.octets ++ os) (grows.nodes ++ option_to_list open_node) ≡ low_flats fs
+  pub gathered : AreGathered (grows.nodes ++ option_to_list open_node)
+  pub settled : IsSettled open_node grows.nodes
 
 -- ## Values
 
@@ -85,3 +100,4 @@ pub record AddsHomes (ts : List Tree) (a : NodeList) (ss : List ℕ) (b : NodeLi
   pub begin : ArePaired (BeginsEver b) new ts
   pub fronts : AreLaid (IsFront a b) [] new ts
   pub say : (zs os : List ℕ) → flats_said (b.numbers.items ++ zs) (b.octets ++ os) grows.nodes ≡ low_flats (flat (trees ts))
+  pub gathered : AreGathered grows.nodes

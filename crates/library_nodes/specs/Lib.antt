@@ -1,5 +1,6 @@
 pub mod Low
 pub mod Said
+pub mod Gathered
 pub mod Listed
 pub mod Laying
 pub mod Parts

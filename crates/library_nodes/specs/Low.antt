@@ -1,11 +1,8 @@
--- The low 64 bits of numbers in two's complement.
--- `n` is a number, `z` a whole number, `l` a label, `f` a node with the number of its children.
-use Rattle.std.specs.Prelude.{ℕ, ◌-◌, ◌%◌, ◌^◌, ℤ, pos, negsuc, List, map}
+-- Nodes whose numbers and tags are their low 64 bits in two's complement.
+-- `z` is a number or a tag, `l` a label, `f` a node with the number of its children.
+use Rattle.std.specs.Prelude.{pos, List, map}
 use Rattle.nd_value.specs.Tree.{Label, Flat, Num, Union}
-
-abbrev pub low : ℤ → ℕ
-low (pos n) = n % 2 ^ 64
-low (negsuc n) = 2 ^ 64 - 1 - n % 2 ^ 64
+use Rattle.library_types.specs.Low.{low}
 
 -- a label whose number or tag is its low 64 bits
 abbrev pub low_label : Label → Label

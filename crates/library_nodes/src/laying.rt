@@ -4,15 +4,18 @@ ghost use Rattle.std.specs.Prelude.{ℕ, ℤ, List};
 ghost use Rattle.nd_value.specs.Tree as tree;
 ghost use Rattle.nd_value.specs.Tree.{flat, more, none, Flat, Tree};
 ghost use Rattle.nd_flat.specs.FlatForm.{flat_seen, text_of};
-ghost use Rattle.library_nodes.specs.Low.{low, low_flat};
+ghost use Rattle.nd_flat.specs.declared.node.Seen.TheVariants.{Num as SeenNum};
+ghost use Rattle.library_types.specs.Low.{low};
+ghost use Rattle.library_nodes.specs.Low.{low_flat};
 ghost use Rattle.library_nodes.specs.Said.{node_flats};
+ghost use Rattle.library_nodes.specs.Gathered.{IsGathered, elements_of};
 ghost use Rattle.library_nodes.specs.Laying.{Adds, AddsOpen, AddsHomes, one_more, more_numbers};
 ghost use Rattle.library_nodes.specs.declared.nodes.NodeList.{NodeList as ListValue};
 
-use crate::bits::low;
 use crate::node::{Elements, Node};
 use crate::nodes::NodeList;
 use crate::rows::{add_row, next_row};
+use library_types::low;
 use nd_base::{Memory, Octets, push};
 use nd_flat::{FlatGraph, PlainWalk, Seen, Walk};
 
@@ -206,6 +209,7 @@ fn close(list: &mut NodeList, unfinished: Option<Node>) -> Result<(), Memory>
 
 // Adds a node that is no number; an array or a pipe is unfinished.
 fn begin(list: &mut NodeList, seen: &Seen<'_>) -> Result<Option<Node>, Memory>
+    requires { (z : ℤ) → seen.now ≡ SeenNum z → ⊥ }
     ensures { IfOk result (λ next. (a : ListValue) (fs : List Flat) → Adds fs a list.old
         → AddsOpen (fs ++ flat_seen seen.now ∷ []) a list.new next) }
 {
@@ -252,6 +256,7 @@ fn unlisted(count: u32) -> Elements
 fn plain_node(octets: &mut Octets, seen: &Seen<'_>) -> Result<Node, Memory>
     ensures octets { OnOk result (octets.new ≡ octets.old ++ text_of (flat_seen seen.now).0) }
     ensures node { IfOk result (λ n. (zs os : List ℕ) → node_flats zs (octets.new ++ os) n ≡ low_flat (flat_seen seen.now) ∷ []) }
+    ensures gathered { IfOk result (λ n. IsGathered (elements_of n) []) }
 {
     match seen {
         Seen::Num(number) => Ok(Node::Number(low(*number))),
@@ -279,6 +284,7 @@ fn plain_node(octets: &mut Octets, seen: &Seen<'_>) -> Result<Node, Memory>
 fn text_node(octets: &mut Octets, max: u32, text: &[u8]) -> Result<Node, Memory>
     ensures octets { OnOk result (octets.new ≡ octets.old ++ text.now) }
     ensures node { IfOk result (λ n. (zs os : List ℕ) → node_flats zs (octets.new ++ os) n ≡ (tree.Text max text.now, 0) ∷ []) }
+    ensures gathered { IfOk result (λ n. IsGathered (elements_of n) []) }
 {
     let from = octets.as_slice().len();
     octets.append(text)?;

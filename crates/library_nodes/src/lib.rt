@@ -2,7 +2,6 @@
 //! octets that belong to the nodes.
 #![tactic(auto)]
 
-mod bits;
 mod building;
 mod contents;
 mod description;
@@ -21,12 +20,11 @@ mod rows;
 mod stop;
 mod values;
 
-pub use bits::low;
 pub use building::{build, build_response};
 pub use description::Description;
 pub use fault::BuildFault;
 pub use kept::KeptNodes;
-pub use listing::Listing;
+pub use listing::{Listing, has_too_many};
 pub use node::{Elements, Node};
 pub use nodes::{NodeList, Nodes};
 

@@ -18,8 +18,8 @@ pub struct Listing<'a> {
     pub cells: &'a [u32],
 }
 
-// Whether a listing has more nodes, numbers or cells than are read.
-pub(crate) fn has_too_many(listing: &Listing<'_>) -> bool
+/// Whether a listing has more nodes, numbers or cells than are read. Takes no memory.
+pub fn has_too_many(listing: &Listing<'_>) -> bool
     ensures { result ≡ has_too_many listing.now }
 {
     listing.nodes.len() > LISTING_LIMIT

@@ -2,13 +2,13 @@
 ghost use Rattle.std.specs.Prelude.{◌≡◌, ◌<◌, ◌≤◌, ◌+◌, ◌++◌, List, map, IfSome, IfNone, IfOk, OnOk};
 ghost use Rattle.nd_value.specs.Tree.{Flat, flat};
 ghost use Rattle.nd_flat.specs.FlatForm.{IsRow, num_flats, row_numbers};
-ghost use Rattle.library_nodes.specs.Low.{low};
+ghost use Rattle.library_types.specs.Low.{low};
 ghost use Rattle.library_nodes.specs.Laying.{AddsOpen, lacking, longer, with_more};
 ghost use Rattle.library_nodes.specs.declared.nodes.NodeList.{NodeList as ListValue};
 
-use crate::bits::low;
 use crate::node::{Elements, Node};
 use crate::nodes::NodeList;
+use library_types::low;
 use nd_base::{Memory, push};
 use nd_flat::{Row, Walk};
 use nd_types::Prim;

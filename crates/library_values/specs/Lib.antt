@@ -1,4 +1,3 @@
 pub mod Decoded
 pub mod Encoded
-pub mod Finding
 pub mod Logged

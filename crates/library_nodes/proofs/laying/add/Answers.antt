@@ -3,7 +3,7 @@ use mir.Syntax.{w128}
 use Rattle.std.proofs.lemmas.Int.{to_z-of_z}
 use Rattle.std.proofs.Common.{rules, ℤ, ◌∙◌, ap}
 use Rattle.std.proofs.lemmas.Result.{IfOk-weaker}
-use Rattle.library_nodes.specs.Low.{low}
+use Rattle.library_types.specs.Low.{low}
 use Rattle.library_nodes.proofs.Adding.{closed}
 use Rattle.library_nodes.proofs.laying.add.Goals as goal
 
@@ -12,6 +12,9 @@ returns-in-Num c =
     let z : ℤ = c.in-Num.number in
     let fits : SFits w128 z = search rules in
     IfOk-weaker c.add_number.result _ _ (λ next h a fs o. rw c.in-Num.is (h a fs z (c.low.ensures ∙ ap low (to_z-of_z w128 z fits)) o)) c.add_number.ensures
+
+pub begin-requires : goal.begin-requires
+begin-requires c z is = c.in_default.not-Num z is
 
 pub returns-in_ok-close-in_default : goal.returns-in_ok-close-in_default
 returns-in_ok-close-in_default c =

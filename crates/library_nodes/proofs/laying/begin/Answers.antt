@@ -1,6 +1,7 @@
-use Rattle.std.proofs.Common.{refl}
+use Rattle.std.proofs.Common.{[], refl}
 use Rattle.nd_flat.specs.FlatForm.{flat_seen, text_of}
 use Rattle.library_nodes.proofs.Adding.{plain_more, array_opened, pipe_opened}
+use Rattle.library_nodes.proofs.Gathered.{plain_seen, after_any}
 use Rattle.library_nodes.proofs.laying.begin.Goals as goal
 
 pub returns-in-Arr : goal.returns-in-Arr
@@ -13,5 +14,7 @@ returns-in-Pipe c a fs h =
 
 pub returns-in_ok-push-in_default : goal.returns-in_ok-push-in_default
 returns-in_ok-push-in_default c a fs h =
-    plain_more fs (flat_seen c.args.seen.now) c.in_ok-node-in_default.node a c.args.list.now _ (text_of (flat_seen c.args.seen.now).0) c.in_ok-push-in_default.ensures.ok refl
-    c.in_ok-node-in_default.ensures.octets c.in_ok-node-in_default.ensures.node h
+    let n = c.in_ok-node-in_default.node in
+    let plain = plain_seen c.args.seen.now n c.requires c.in_default.not-Arr c.in_default.not-Pipe _ (c.in_ok-node-in_default.ensures.node [] []) in
+    plain_more fs (flat_seen c.args.seen.now) n a c.args.list.now _ (text_of (flat_seen c.args.seen.now).0) c.in_ok-push-in_default.ensures.ok refl
+    c.in_ok-node-in_default.ensures.octets c.in_ok-node-in_default.ensures.node plain.1 h (after_any h.grows.nodes n [] plain.0 h.gathered)

@@ -1,6 +1,6 @@
 use Rattle.std.proofs.Common.{map, refl}
 use Rattle.nd_flat.specs.FlatForm.{row_numbers}
-use Rattle.library_nodes.specs.Low.{low}
+use Rattle.library_types.specs.Low.{low}
 use Rattle.library_nodes.proofs.Many.{many_lows, numbers_many}
 use Rattle.library_nodes.proofs.rows.add_row.Goals as goal
 

@@ -6,7 +6,7 @@ use Rattle.nd_types.specs.Number.{value_of_octets}
 use Rattle.nd_types.specs.Table.{width}
 use Rattle.nd_flat.specs.FlatForm.{row_numbers}
 use Rattle.nd_flat.proofs.RowLaws.{one_cut}
-use Rattle.library_nodes.specs.Low.{low}
+use Rattle.library_types.specs.Low.{low}
 use Rattle.library_nodes.proofs.Many.{row_pushed}
 use Rattle.library_nodes.proofs.rows.push_all.Goals as goal
 

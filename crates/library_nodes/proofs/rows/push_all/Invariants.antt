@@ -1,7 +1,7 @@
 use Rattle.std.proofs.Common.{◌≡◌, ◌+◌, ◌-◌, ◌*◌, ◌++◌, length, map}
 use Rattle.nd_types.specs.Table.{width}
 use Rattle.nd_flat.specs.FlatForm.{row_numbers}
-use Rattle.library_nodes.specs.Low.{low}
+use Rattle.library_types.specs.Low.{low}
 use Rattle.library_nodes.proofs.Many.{lows}
 use Rattle.library_nodes.proofs.rows.push_all.Given as goal
 

@@ -5,8 +5,8 @@ use Rattle.nd_types.specs.Roots.{NamedRoot, named_roots, root_value}
 use Rattle.nd_value.proofs.FewRoots.{few_named_roots}
 use Rattle.nd_value.proofs.LocalPass.{given_root}
 use Rattle.nd_lemmas.proofs.Lists.{item_at}
-use Rattle.library_values.proofs.Searching.{same_names, other_names, none_first, none_more, none_at_all}
-use Rattle.library_values.proofs.finding.root_named.Goals as goal
+use Rattle.library_types.proofs.Searching.{same_names, other_names, none_first, none_more, none_at_all}
+use Rattle.library_types.proofs.finding.root_named.Goals as goal
 
 pub loop-root-init : goal.loop-root-init
 loop-root-init c = record { counted = refl; others = λ o there. none_first NamedRoot (λ r. r.name) _ _ }

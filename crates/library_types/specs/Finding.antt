@@ -6,7 +6,7 @@ use Rattle.nd_types.specs.declared.types.Field.{Field}
 use Rattle.nd_types.specs.declared.types.TypeDef.{TypeDef}
 use Rattle.nd_types.specs.declared.types.TypeDef.TheVariants.{Array, Pipe, Pointer}
 use Rattle.nd_types.specs.Roots.{NamedRoot}
-use Rattle.library_values.specs.declared.finding.Named.{Named}
+use Rattle.library_types.specs.declared.finding.Named.{Named}
 
 -- this is the place of the first root of that name, and its type
 pub record IsRootNamed (rs : List NamedRoot) (name : List ℕ) (x : Named) : Type 0 where

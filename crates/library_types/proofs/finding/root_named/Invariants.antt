@@ -2,8 +2,8 @@ use Rattle.std.proofs.Common.{◌≡◌, Some, length}
 use Rattle.std.specs.List.{slice_get}
 use Rattle.nd_types.specs.declared.types.Operation.{Operation}
 use Rattle.nd_types.specs.Roots.{NamedRoot, named_roots}
-use Rattle.library_values.proofs.Searching.{NoneBefore}
-use Rattle.library_values.proofs.finding.root_named.Given as goal
+use Rattle.library_types.proofs.Searching.{NoneBefore}
+use Rattle.library_types.proofs.finding.root_named.Given as goal
 
 abbrev pub invariant-loop-root : goal.invariant-loop-root
 invariant-loop-root l = record {

@@ -4,7 +4,7 @@ ghost use Rattle.std.specs.List.{slice_get};
 ghost use Rattle.nd_types.specs.Table.{type_at};
 ghost use Rattle.nd_types.specs.Roots.{named_roots};
 ghost use Rattle.nd_types.specs.declared.types.Operation.{Operation};
-ghost use Rattle.library_values.specs.Finding.{IsRootNamed, HasNoRoot, IsMemberNamed, HasNoMember, element_of};
+ghost use Rattle.library_types.specs.Finding.{IsRootNamed, HasNoRoot, IsMemberNamed, HasNoMember, element_of};
 
 use nd_types::{Fields, Interface, Side, TypeDef, TypeId, Types};
 

@@ -1,6 +1,6 @@
 // The low 64 bits of numbers.
 ghost use Rattle.std.specs.Prelude.{◌≡◌, ◌%◌, ◌^◌};
-ghost use Rattle.library_nodes.specs.Low.{low};
+ghost use Rattle.library_types.specs.Low.{low};
 
 /// The low 64 bits of a number in two's complement. Takes no memory.
 pub fn low(number: i128) -> u64

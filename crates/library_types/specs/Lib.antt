@@ -1,0 +1,5 @@
+pub mod Low
+pub mod Finding
+pub mod Described
+pub mod Parts
+pub mod Rooted
