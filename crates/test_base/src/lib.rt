@@ -13,6 +13,8 @@ mod fragment_reasons;
 #[cfg(test)]
 mod fragment_streams;
 #[cfg(test)]
+mod full;
+#[cfg(test)]
 mod input;
 #[cfg(test)]
 mod lists;

@@ -1,9 +1,7 @@
 //! Tests of the public call of the program on worked command lines, each command once. Tests of sessions: scripts over resources in memory, some of
-//! whose calls fail, and a store that is full.
+//! whose calls fail.
 #![tactic(auto)]
 
-#[cfg(test)]
-mod full;
 #[cfg(test)]
 mod resource_sessions;
 #[cfg(test)]

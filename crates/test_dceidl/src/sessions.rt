@@ -87,6 +87,15 @@ fn a_session_is_run_over_the_stock(rt: HostRuntime) -> Result<(), Fail> {
 }
 
 #[test]
+fn room_is_made_for_what_will_be_spent(rt: HostRuntime) -> Result<(), Fail> {
+    let mut stock = stock_of_one(rt.alloc())?;
+    stock.room()?;
+    assert!(rt; stock.fresh(0).is_some() && stock.fresh(1).is_none());
+    assert!(rt; stock.spent(0).is_none());
+    Ok(())
+}
+
+#[test]
 fn other_words_leave_the_stock(rt: HostRuntime) -> Result<(), Fail> {
     let mut stock = stock_of_one(rt.alloc())?;
     let ran = run_word(rt.alloc(), "--version", b"x", &mut stock)?;

@@ -1,8 +1,8 @@
 use Rattle.std.proofs.Common.{◌+◌, ◌≤◌}
-use Rattle.ctx_store.specs.InMemory.{mem_resource_seen}
 use Rattle.ctx_store.specs.Live.{AreLive}
 use Rattle.ctx_store.specs.Seen.{store_seen, store_spare}
-use Rattle.test_dceidl.proofs.full.open_many.Given as goal
+use Rattle.ctx_store.specs.contracts.boxed.BoxDynResourceResource.TheImpl.{shows-value}
+use Rattle.test_base.proofs.full.open_many.Given as goal
 
 abbrev pub invariant-loop-at : goal.invariant-loop-at
-invariant-loop-at l = AreLive (store_seen mem_resource_seen l.store) × (l.fn.count + 1 ≤ store_spare l.store + l.at)
+invariant-loop-at l = AreLive (store_seen shows-value l.store) × (l.fn.count + 1 ≤ store_spare l.store + l.at)
