@@ -18,7 +18,7 @@ use Rattle.command_line.specs.declared.command.OrderWord.TheVariants.{Fixed}
 use Rattle.command_refusals.specs.declared.refusal.Refusal.{Refusal}
 use Rattle.dceidl.specs.Input.{IsLabelledEncoding, OfText, HasCalled, IsNoCall, IsWrapped, head_for}
 use Rattle.dceidl.specs.Ready.{IsFound, IsCallReady}
-use Rattle.dceidl.specs.declared.TheConstants.{WRAP_CHUNK}
+use Rattle.dceidl.specs.Input.{wrap_chunk}
 
 -- ## `call`
 
@@ -49,7 +49,7 @@ short_stub s w order chunk stub (text, read, e) = subst (λ (l : List ℕ). leng
 
 -- the fragments of what was encoded on this side
 pub wrapped_is : (f : FilesOver) (s : SourceOver) (of : Subject) (order : Order) (call max : ℕ) (i : Interface) (n : ℕ) (o : Operation) (side : Side)
-    (stub made : List ℕ) → side ≡ of.side → IsFound f of i n o → OfText s (λ text. IsLabelledEncoding (setting_of i o side) (Fixed order) WRAP_CHUNK text stub)
+    (stub made : List ℕ) → side ≡ of.side → IsFound f of i n o → OfText s (λ text. IsLabelledEncoding (setting_of i o side) (Fixed order) wrap_chunk text stub)
     → made ≡ Pieces order (head_for side n) call max stub → IsWrapped f s of order call max made
 wrapped_is f s of order call max i n o side stub made same found encoded is = record {
   interface = i;
@@ -57,6 +57,6 @@ wrapped_is f s of order call max i n o side stub made same found encoded is = re
   operation = o;
   found = found;
   stub = stub;
-  encoded = subst (λ (k : Side). OfText s (λ text. IsLabelledEncoding (setting_of i o k) (Fixed order) WRAP_CHUNK text stub)) same encoded;
+  encoded = subst (λ (k : Side). OfText s (λ text. IsLabelledEncoding (setting_of i o k) (Fixed order) wrap_chunk text stub)) same encoded;
   made_is = is ∙ ap (λ (k : Side). Pieces order (head_for k n) call max stub) same;
 }

@@ -47,7 +47,7 @@ use Rattle.nd_value.specs.Fitting.{setting_of}
 use Rattle.command_call.specs.Called.{IsCalled, IsCallCause}
 use Rattle.dceidl.specs.Ready.{IsReady, IsNumbered, IsCallReady, IsCallUnready}
 use Rattle.dceidl.specs.Rows.{IsAccepted, IsCallAccepted, MustBeNoCall, MustBeNoFragments}
-use Rattle.dceidl.specs.declared.TheConstants.{WRAP_CHUNK}
+use Rattle.dceidl.specs.Input.{wrap_chunk}
 use Rattle.dceidl.proofs.Calls.{cause_over, called_over, refused_calls, refused_unmade, good_call, bad_stub, bad_unmade}
 use Rattle.dceidl.proofs.HeldFiles.{compiled_cause, no_idl, no_idl_cause, same_number, one_meaning, means_here, one_setting}
 use Rattle.dceidl.proofs.HeldFiles.{accepted_cause, unready, unready_cause}
@@ -479,7 +479,7 @@ module _ (x : Seen) (loads : HasRisen x.files.faults → ⊥) where
         → (r : Refusal) → IsNoWrap x.files x.input of r → P r
     of_wrap w a P wanting by r (inl (cause, before)) = subst P (sym (accepted_cause x.files of loads w a r cause)) wanting
     of_wrap w a P wanting by r (inr (v, ready, cause)) =
-        by r (subst (λ (u : Setting). IsInputEncodingCause x.input u WRAP_CHUNK r) (one_setting x.files of w v a ready) cause)
+        by r (subst (λ (u : Setting). IsInputEncodingCause x.input u wrap_chunk r) (one_setting x.files of w v a ready) cause)
 
     module _ (call max : ℕ) where
       wrap_ready : (made : List ℕ) → (m : IsWrapped x.files x.input of order call max made) → IsReady x.files of (setting_of m.interface m.operation of.side)

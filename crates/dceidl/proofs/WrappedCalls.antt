@@ -22,7 +22,7 @@ use Rattle.command_decode.specs.Decoded.{IsDecoding}
 use Rattle.command_streams.specs.Input.{AreGiven}
 use Rattle.dceidl.specs.Input.{IsMigration, IsWrapped, head_for, stated_for}
 use Rattle.command_line.specs.Words.{Subject}
-use Rattle.dceidl.specs.declared.TheConstants.{WRAP_CHUNK}
+use Rattle.dceidl.specs.Input.{wrap_chunk}
 use Rattle.dceidl.proofs.Calling.{few_numbers, short_stub}
 use Rattle.dceidl.proofs.Calls.{own_is}
 use Rattle.dceidl.proofs.RoundTrip.{HaveOneText, same_migration}
@@ -59,7 +59,7 @@ wrapped_call pieces f s of order call max made id least most h =
     let there = h.found.named.is_there in
     let few = few_numbers h.number (length h.interface.operations) (slice_get_within h.interface.operations h.number h.operation there) h.interface.legal.few_operations in
     call_of pieces h.interface h.number h.operation of.side order call max h.stub made there few id least most
-    (short_stub s (setting_of h.interface h.operation of.side) order WRAP_CHUNK h.stub h.encoded) h.made_is
+    (short_stub s (setting_of h.interface h.operation of.side) order wrap_chunk h.stub h.encoded) h.made_is
 
 -- the side that is read is the one that was written
 same_side : (side : Side) (n : ℕ) → called.side (stated_for side n) ≡ side
@@ -107,5 +107,5 @@ wrapped_text pieces texts f s of order call max made id least most h t given pri
     let (text, read, e) = h.encoded in
     let decoded : IsDecoding w order e.octets d.text = subst (λ (l : List ℕ). IsDecoding w order l d.text) (same.stub_same ∙ e.made_is) by_side in
     let same_text : d.text ≡ other =
-    same_migration w (legal_side_of i h.number h.operation of.side h.found.named.is_there) order WRAP_CHUNK text e.octets e.encoding texts (omega arith) d.text other decoded m in
+    same_migration w (legal_side_of i h.number h.operation of.side h.found.named.is_there) order wrap_chunk text e.octets e.encoding texts (omega arith) d.text other decoded m in
     d.made_is ∙ ap₂ (λ (n : ℕ) (l : List ℕ). call_line n ++ l) same.call_same same_text

@@ -34,7 +34,6 @@ use Rattle.command_decode.specs.Decoded.{IsExplained, IsInputCause, IsPrinted, I
 use Rattle.command_encode.specs.Encoded.{IsWritten, IsLong, IsTextCause, beside, HoldsRequest, HoldsNoRequest}
 use Rattle.command_call.specs.Called.{IsCalled, IsCallCause}
 use Rattle.command_drain.specs.Printed as draining
-use Rattle.dceidl.specs.declared.TheConstants.{WRAP_CHUNK}
 use Rattle.dceidl.specs.Ready.{IsFound, IsReady, IsReadyCause, IsCallReady, IsCallUnready}
 
 -- ## What is made of a text
@@ -176,9 +175,13 @@ IsNoCall f s idl acf op r =
 
 -- ### `wrap`
 
--- the values are encoded in this order, with large chunks
+-- a chunk of a pipe has as many elements as there are left, and at most so many
+abbrev pub wrap_chunk : ℕ
+wrap_chunk = 65536
+
+-- the values are encoded in this order
 abbrev pub wrap_task : Order → Task
-wrap_task order = Encode (Fixed order) WRAP_CHUNK
+wrap_task order = Encode (Fixed order) wrap_chunk
 
 -- inputs are of a request, which states the number of its operation, and outputs of a response
 abbrev pub head_for : Side → ℕ → Head
@@ -197,10 +200,10 @@ pub record IsWrapped (f : FilesOver) (s : SourceOver) (of : Subject) (order : Or
   pub operation : Operation
   pub found : IsFound f of interface number operation
   pub stub : List ℕ
-  pub encoded : OfText s (λ text. IsLabelledEncoding (setting_of interface operation of.side) (Fixed order) WRAP_CHUNK text stub)
+  pub encoded : OfText s (λ text. IsLabelledEncoding (setting_of interface operation of.side) (Fixed order) wrap_chunk text stub)
   pub made_is : made ≡ Pieces order (head_for of.side number) call max stub
 
 -- why nothing is written: as the text is not encoded
 abbrev pub IsNoWrap : FilesOver → SourceOver → Subject → Refusal → Type 0
 IsNoWrap f s of r =
-    (IsReadyCause f of r × IsUntouched s) ⊎ ((w : Setting) × IsReady f of w × IsInputEncodingCause s w WRAP_CHUNK r)
+    (IsReadyCause f of r × IsUntouched s) ⊎ ((w : Setting) × IsReady f of w × IsInputEncodingCause s w wrap_chunk r)

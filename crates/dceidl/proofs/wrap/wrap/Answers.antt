@@ -6,7 +6,7 @@ use Rattle.nd_base.specs.declared.TheConstants.{STREAM_LIMIT}
 use Rattle.rpc_pdu.specs.Fragments.{Pieces}
 use Rattle.command_line.specs.Commands.{subject_of}
 use Rattle.dceidl.specs.Input.{head_for}
-use Rattle.dceidl.specs.declared.TheConstants.{WRAP_CHUNK}
+use Rattle.dceidl.specs.Input.{wrap_chunk}
 use Rattle.dceidl.proofs.Causes.{ready_is}
 use Rattle.dceidl.proofs.Calling.{few_numbers, short_stub, wrapped_is}
 use Rattle.dceidl.proofs.wrap.wrap.Goals as goal
@@ -57,4 +57,4 @@ fragments-requires-clause-room g c =
     let s = source_over g.S.Source.seen c.args.input.now c.encode_input.new.input in
     let r = c.in_ok-ready.ready in
     subst (λ (l : List ℕ). length l ≤ STREAM_LIMIT) (sym c.as_slice.ensures)
-    (short_stub s (setting_of r.interface o r.side) c.args.order WRAP_CHUNK c.in_ok-stub.stub (c.in_ok-stub.ensures.done o found.named.is_there))
+    (short_stub s (setting_of r.interface o r.side) c.args.order wrap_chunk c.in_ok-stub.stub (c.in_ok-stub.ensures.done o found.named.is_there))
