@@ -1,7 +1,6 @@
 -- Gaps of octets that others follow.
 -- `fetched` are octets and `more` those after them, `xs` are items or entries, `w` is a setting, `g` a graph.
-use Rattle.std.proofs.Common.{◌≡◌, ◌∙◌, ℕ, ℤ, ◌+◌, ◌≤◌, zero, suc, not, List, [], ◌∷◌, ◌++◌, codes, decimal, length, Option, Some, None, refl, ap, ap₂, sym, append_assoc, append-nil}
-use Rattle.std.specs.Prelude.{cond, filter}
+use Rattle.std.proofs.Common.{◌≡◌, ◌∙◌, true, false, ℕ, ℤ, ◌+◌, ◌≤◌, zero, suc, List, [], ◌∷◌, ◌++◌, codes, decimal, length, Option, Some, None, refl, ap, ap₂, sym, append_assoc, append-nil}
 use Rattle.std.specs.List.{AllByRecursion}
 use Rattle.nd_base.specs.declared.octets.Order.{Order}
 use Rattle.nd_value.specs.declared.item.Item.{Item}
@@ -14,7 +13,7 @@ use Rattle.nd_grammar.specs.Entry.{EntryAt, size_at}
 use Rattle.nd_grammar.specs.Items.{item_at, item_of, items}
 use Rattle.nd_grammar.specs.Stream.{IsRendered, piece}
 use Rattle.nd_grammar.proofs.next.Spelt.{piece_left}
-use Rattle.ndr_explain.specs.Explained.{are_zero, explanation_over, filled_gaps, gap_shown, is_filled, item_head, its_octets, rest_over}
+use Rattle.ndr_explain.specs.Explained.{are_zero, explanation_over, filled, filled_gaps, gap_shown, item_head, its_octets, rest_over}
 use Rattle.command_decode.specs.Decoded.{gaps_line}
 
 module _ (fetched : List ℕ) where
@@ -45,17 +44,14 @@ module _ (fetched : List ℕ) where
     same_lines w g [] a = refl
     same_lines w g (x ∷ xs) a = ap₂ (λ r t. (item_head x ++ r) ++ t) (same_rest w g x x.kind a.0) (same_lines w g xs a.1)
 
-    same_test : (x : Item) (k : ItemKind) → IsWithin x → is_filled (fetched ++ more) k x ≡ is_filled fetched k x
-    same_test x kind.Gap h = ap (λ os. not (are_zero os)) (same_octets x h)
-    same_test x _ h = refl
-
-    same_gaps : (xs : List Item) → AllByRecursion IsWithin xs → filter (λ x. is_filled (fetched ++ more) x.kind x) xs ≡ filter (λ x. is_filled fetched x.kind x) xs
-    same_gaps [] a = refl
-    same_gaps (x ∷ xs) a = ap₂ (λ b ys. cond b (x ∷ ys) ys) (same_test x x.kind a.0) (same_gaps xs a.1)
+    same_count : (x : Item) (k : ItemKind) → IsWithin x → filled (fetched ++ more) k x ≡ filled fetched k x
+    same_count x kind.Gap h = ap (λ os. elim (are_zero os) [ true ↦ 0 | false ↦ 1 ]) (same_octets x h)
+    same_count x _ h = refl
 
     -- and so are the gaps that are not zero
     pub as_many_gaps : (xs : List Item) → AllByRecursion IsWithin xs → filled_gaps (fetched ++ more) xs ≡ filled_gaps fetched xs
-    as_many_gaps xs a = ap length (same_gaps xs a)
+    as_many_gaps [] a = refl
+    as_many_gaps (x ∷ xs) a = ap₂ (λ m n. m + n) (same_count x x.kind a.0) (as_many_gaps xs a.1)
 
 -- ## The line that counts them
 

@@ -45,7 +45,7 @@ lines_over w g octets xs i t l h = sym (append-nil t) ∙ ap (λ ys. t ++ explan
 
 -- ## Gaps
 
-none_there : (at len : ℕ) → take len (drop at []) ≡ []
+none_there : (at len : ℕ) → ◌≡◌ {A = List ℕ} (take len (drop at [])) []
 none_there zero zero = refl
 none_there zero (suc len) = refl
 none_there (suc at) zero = refl

@@ -2,7 +2,7 @@
 -- and what it holds.
 -- `w` is a setting, `g` a graph, `h` a home, `n` a node's number, `l` a node's label, `x` an item, `z` the number that an item holds, `octets` are
 -- those of the stream, `os` some of them.
-use Rattle.std.specs.Prelude.{ℕ, ℤ, ◌==◌, Bool, true, false, not, nat_eq, List, [], ◌∷◌, ◌++◌, drop, filter, flat_map, length, take}
+use Rattle.std.specs.Prelude.{ℕ, ℤ, ◌+◌, ◌==◌, Bool, true, false, List, [], ◌∷◌, ◌++◌, drop, flat_map, take}
 use Rattle.std.specs.Prelude.{Option, None, Some, codes, decimal}
 use Rattle.std.specs.Fmt.{signed_decimal}
 use Rattle.std.specs.List.{list_all, slice_get}
@@ -96,8 +96,11 @@ explanation w g xs = flat_map (item_line w g) xs
 abbrev pub its_octets : List ℕ → Item → List ℕ
 its_octets octets x = take x.len (drop x.at octets)
 
+abbrev pub is_zero : ℕ → Bool
+is_zero b = b == 0
+
 abbrev pub are_zero : List ℕ → Bool
-are_zero os = list_all (nat_eq 0) os
+are_zero os = list_all is_zero os
 
 abbrev pub gap_shown : List ℕ → List ℕ
 gap_shown os = elim (are_zero os) [ true ↦ [] | false ↦ codes " x\"" ++ (hex_text os ++ codes "\"") ]
@@ -113,10 +116,12 @@ line_over w g octets x = item_head x ++ rest_over w g octets x.kind x
 abbrev pub explanation_over : Setting → Graph → List ℕ → List Item → List ℕ
 explanation_over w g octets xs = flat_map (line_over w g octets) xs
 
-abbrev pub is_filled : List ℕ → ItemKind → Item → Bool
-is_filled octets kind.Gap x = not (are_zero (its_octets octets x))
-is_filled octets _ x = false
+-- 1 of a gap whose octets are not all zero, 0 of any other item
+abbrev pub filled : List ℕ → ItemKind → Item → ℕ
+filled octets kind.Gap x = elim (are_zero (its_octets octets x)) [ true ↦ 0 | false ↦ 1 ]
+filled octets _ x = 0
 
 -- how many gaps have octets that are not all zero
 abbrev pub filled_gaps : List ℕ → List Item → ℕ
-filled_gaps octets xs = length (filter (λ x. is_filled octets x.kind x) xs)
+filled_gaps octets [] = 0
+filled_gaps octets (x ∷ xs) = filled octets x.kind x + filled_gaps octets xs

@@ -1,8 +1,8 @@
 // Gaps whose octets are not all zero.
-ghost use Rattle.std.specs.Prelude.{◌≡◌, ◌++◌, true, false, OnOk};
+ghost use Rattle.std.specs.Prelude.{◌≡◌, ◌≤◌, ◌++◌, true, false, OnOk};
 ghost use Rattle.nd_value.specs.declared.item.ItemKind.TheVariants as kinds;
 ghost use Rattle.ndr_explain.specs.Cursors.{IsNoGap};
-ghost use Rattle.ndr_explain.specs.Explained.{are_zero as all_zero, filled_gaps, gap_shown, is_filled as is_filled_item, its_octets};
+ghost use Rattle.ndr_explain.specs.Explained.{are_zero as all_zero, filled as filled_by, filled_gaps, gap_shown, is_zero as zero, its_octets};
 
 use nd_base::{Memory, Octets};
 use nd_value::{Item, ItemKind, ItemLog};
@@ -18,9 +18,7 @@ pub fn count_filled_gaps(items: &ItemLog, octets: &[u8]) -> usize
         let Some(item) = items.get(at) else {
             unreachable!()
         };
-        if is_filled(octets, item) {
-            count += 1;
-        }
+        count += filled(octets, item);
     }
     count
 }
@@ -40,14 +38,23 @@ pub fn append_gap(text: &mut Octets, octets: &[u8], gap: &Item) -> Result<(), Me
     Ok(())
 }
 
-// Whether an item is a gap whose octets are not all zero.
-fn is_filled(octets: &[u8], item: &Item) -> bool
-    ensures { result ≡ is_filled_item octets.now item.now.kind item.now }
+// 1 for a gap whose octets are not all zero, 0 for any other item.
+fn filled(octets: &[u8], item: &Item) -> usize
+    ensures is { result ≡ filled_by octets.now item.now.kind item.now }
+    ensures few { result ≤ 1 }
 {
     match item.kind {
-        ItemKind::Gap => !are_zero(octets_of(octets, item)),
-        _ => false,
+        ItemKind::Gap => one_unless_zero(octets_of(octets, item)),
+        _ => 0,
     }
+}
+
+// 0 for octets that are all zero, and else 1.
+fn one_unless_zero(octets: &[u8]) -> usize
+    ensures is { result ≡ elim (all_zero octets.now) [ true ↦ 0 | false ↦ 1 ] }
+    ensures few { result ≤ 1 }
+{
+    if are_zero(octets) { 0 } else { 1 }
 }
 
 // Tells whether an item is a gap.
@@ -77,14 +84,15 @@ fn octets_of<'o>(octets: &'o [u8], item: &Item) -> &'o [u8]
     &rest[..len]
 }
 
-// Whether octets are all zero.
+// Tells whether octets are all zero.
 fn are_zero(octets: &[u8]) -> bool
     ensures { result ≡ all_zero octets.now }
 {
-    for octet in octets {
-        if *octet != 0 {
-            return false;
-        }
-    }
-    true
+    octets.iter().all(|octet| is_zero(*octet))
+}
+
+fn is_zero(octet: u8) -> bool
+    ensures { result ≡ zero octet }
+{
+    octet == 0
 }

@@ -1,6 +1,6 @@
-use Rattle.std.proofs.Common.{◌≡◌, ◌∙◌, ◌++◌, [], true, false, List, ℕ, codes, append-nil, ap, sym}
+use Rattle.std.proofs.Common.{◌∙◌, ◌++◌, true, false, codes, append-nil, ap, sym}
 use Rattle.text_grammar.specs.Written.{hex_text}
-use Rattle.ndr_explain.specs.Explained.{are_zero, gap_shown, its_octets}
+use Rattle.ndr_explain.specs.Explained.{are_zero, gap_shown}
 use Rattle.ndr_explain.proofs.FilledGaps.{gap_is, no_gap_shown}
 use Rattle.ndr_explain.proofs.Lines.{three}
 use Rattle.ndr_explain.proofs.gaps.append_gap.Goals as goal
