@@ -63,7 +63,3 @@ one_line t t1 t2 t3 zero some e f g = absurd (some refl)
 one_line t t1 t2 t3 (suc n) some e f g =
     g ∙ ap (λ u. u ++ codes "\n") (f ∙ ap (λ u. u ++ decimal (suc n)) e) ∙ append_assoc (t ++ codes "gaps that are not zero: ") (decimal (suc n)) (codes "\n")
     ∙ append_assoc t (codes "gaps that are not zero: ") (decimal (suc n) ++ codes "\n")
-
--- lines with two at their end
-pub two_lines : (t t1 t2 a b : List ℕ) → t1 ≡ t ++ a → t2 ≡ t1 ++ b → t2 ≡ t ++ (a ++ b)
-two_lines t t1 t2 a b e f = f ∙ ap (λ u. u ++ b) e ∙ append_assoc t a b
