@@ -578,6 +578,14 @@ uint32_t dceidl_items_of(dceidl_interface *interface, uint32_t operation, uint32
 /* The same of the response to a request, checked against it. The answers are those of dceidl_decode_response. */
 uint32_t dceidl_items_of_response(dceidl_values *request, uint32_t order, const uint8_t *octets, size_t length, dceidl_items *items, dceidl_fault *fault);
 
+/* Decodes as dceidl_decode does, and fills both handles, with the values and with their items, in one reading. The answers are those of dceidl_decode. */
+uint32_t dceidl_decode_items(dceidl_interface *interface, uint32_t operation, uint32_t side, uint32_t order, const uint8_t *octets, size_t length,
+                             dceidl_values *values, dceidl_items *items, size_t *taken, dceidl_fault *fault);
+
+/* The same of the response to a request, checked against it. The answers are those of dceidl_decode_response. */
+uint32_t dceidl_decode_response_items(dceidl_values *request, uint32_t order, const uint8_t *octets, size_t length, dceidl_values *values,
+                                      dceidl_items *items, size_t *taken, dceidl_fault *fault);
+
 void dceidl_items_free(dceidl_items *items);
 
 /* Sets the number of items. EMPTY. */

@@ -121,6 +121,29 @@ static void items_of(dceidl_interface *interface, dceidl_fault *fault) {
     dceidl_values_free(&values);
 }
 
+/* Values and items in one reading. */
+static void both_of(dceidl_interface *interface, dceidl_fault *fault) {
+    static const uint8_t request[] = {2, 0, 0, 0}, response[] = {2, 0, 0, 0, 7, 8, 9};
+    dceidl_values asked = DCEIDL_NONE, answered = DCEIDL_NONE, none = DCEIDL_NONE;
+    dceidl_items items = DCEIDL_NONE;
+    size_t count, taken = 0;
+    uint32_t operation, side;
+    need(dceidl_decode_items(interface, 1, 2, DCEIDL_LITTLE, request, 4, &asked, &items, &taken, fault) == DCEIDL_ARGUMENT, "no side");
+    need(dceidl_decode_items(interface, 1, DCEIDL_IN, DCEIDL_LITTLE, request, 3, &asked, &items, &taken, fault) == DCEIDL_REFUSED && taken == 0, "too short");
+    need(dceidl_values_of(&asked, &operation, &side) == DCEIDL_EMPTY && dceidl_item_count(&items, &count) == DCEIDL_EMPTY, "neither");
+    need(dceidl_decode_items(interface, 1, DCEIDL_IN, DCEIDL_LITTLE, request, 4, &asked, &items, &taken, fault) == DCEIDL_OK && taken == 4, "request");
+    need(dceidl_values_of(&asked, &operation, &side) == DCEIDL_OK && operation == 1 && side == DCEIDL_IN, "its values");
+    need(dceidl_item_count(&items, &count) == DCEIDL_OK && count == 1, "its item");
+    need(dceidl_decode_response_items(&none, DCEIDL_LITTLE, response, 7, &answered, &items, &taken, fault) == DCEIDL_EMPTY, "no request");
+    need(dceidl_decode_response_items(&asked, DCEIDL_BIG, response, 7, &answered, &items, &taken, fault) == DCEIDL_REFUSED && taken == 4, "another count");
+    need(dceidl_decode_response_items(&asked, DCEIDL_LITTLE, response, 7, &answered, &items, &taken, fault) == DCEIDL_OK && taken == 6, "response");
+    need(dceidl_item_count(&items, &count) == DCEIDL_OK && count == 3, "its items");
+    need(dceidl_decode_response_items(&answered, DCEIDL_LITTLE, response, 7, &asked, &items, &taken, fault) == DCEIDL_ARGUMENT, "no request either");
+    dceidl_items_free(&items);
+    dceidl_values_free(&asked);
+    dceidl_values_free(&answered);
+}
+
 int main(void) {
     dceidl_file file = {dceidl_some("t.idl"), 5, dceidl_some(IDL), sizeof IDL - 1};
     dceidl_interface interface = DCEIDL_NONE;
@@ -137,6 +160,7 @@ int main(void) {
     types(&interface);
     nodes_of(&values);
     items_of(&interface, &fault);
+    both_of(&interface, &fault);
     dceidl_values_free(&values);
     dceidl_interface_free(&interface);
     dceidl_fault_free(&fault);

@@ -3,12 +3,12 @@ ghost use Rattle.std.specs.Prelude.{◌≡◌, ◌≤◌, length, None, true, fa
 ghost use Rattle.std.specs.List.{slice_get};
 ghost use Rattle.nd_types.specs.declared.types.Side.TheVariants.{In, Out};
 ghost use Rattle.library_answers.specs.Answers.{interface_in, values_in, refusal_in, order_numbered, is_stream};
-ghost use Rattle.library_answers.specs.Octets.{IsDecodeRefusal, IsResponseRefusal};
+ghost use Rattle.library_answers.specs.Octets.{IsDecode, IsDecodeRefusal, IsResponse, IsResponseRefusal};
 ghost use Rattle.library_answers.specs.Items.{items_in, IsItems, IsResponseItems, item_described};
 
 use library_answers::{
-    ARGUMENT, EMPTY, ItemDescription, MEMORY, OK, REFUSED, SHORT, describe_item, free, log_items,
-    log_response,
+    ARGUMENT, EMPTY, ItemDescription, MEMORY, OK, REFUSED, SHORT, decode_items,
+    decode_response_items, describe_item, free, log_items, log_response,
 };
 use library_handles::{Handle, Held};
 use std::alloc::Global;
@@ -82,6 +82,95 @@ pub extern "C" fn dceidl_items_of_response(
     };
     let status = match &*held {
         Held::Values(given) => log_response(alloc, given, order, octets, items, fault),
+        _ => EMPTY,
+    };
+    request.put(alloc, held);
+    status
+}
+
+/// Fills `values` with those of a side of an operation that octets begin with, and `items` with their items.
+#[unsafe(no_mangle)]
+pub extern "C" fn dceidl_decode_items(
+    alloc: Global,
+    interface: &mut Handle,
+    operation: u32,
+    side: u32,
+    order: u32,
+    octets: &[u8],
+    values: &mut Handle,
+    items: &mut Handle,
+    taken: &mut usize,
+    fault: &mut Handle,
+) -> u32
+    ensures known { result ≤ REFUSED }
+    ensures not_short { result ≡ SHORT → ⊥ }
+    ensures same { interface.new.value ≡ interface.old.value }
+    ensures decoded { result ≡ OK → IsSomeAnd (interface_in interface.old.value)
+        (λ i. IsSomeAnd (values_in values.new.value) (λ v. IsDecode i operation side order octets.now taken.new v)) }
+    ensures logged { result ≡ OK → IsSomeAnd (interface_in interface.old.value)
+        (λ i. IsSomeAnd (items_in items.new.value) (IsItems i operation side order octets.now)) }
+    ensures refused { result ≡ REFUSED → IsSomeAnd (interface_in interface.old.value)
+        (λ i. IsSomeAnd (refusal_in fault.new.value) (λ e. IsDecodeRefusal i operation side order octets.now e)) }
+    ensures argument { result ≡ ARGUMENT → IsSomeAnd (interface_in interface.old.value) (λ i. is_stream i operation side order ≡ false) }
+    ensures range { (result ≡ EMPTY → ⊥) → (result ≡ ARGUMENT → ⊥) → IsSomeAnd (interface_in interface.old.value)
+        (λ i. is_stream i operation side order ≡ true) }
+    ensures empty { result ≡ EMPTY → interface_in interface.old.value ≡ None }
+    ensures memory { result ≡ MEMORY → is_some (interface_in interface.old.value) ≡ true }
+    ensures values_kept { (result ≡ OK → ⊥) → values.new.value ≡ values.old.value }
+    ensures items_kept { (result ≡ OK → ⊥) → items.new.value ≡ items.old.value }
+    ensures taken_kept { (result ≡ OK → ⊥) → taken.new ≡ taken.old }
+    ensures fault_kept { (result ≡ REFUSED → ⊥) → fault.new.value ≡ fault.old.value }
+{
+    let Some(held) = interface.take(alloc) else {
+        return EMPTY;
+    };
+    let status = match &*held {
+        Held::Interface(compiled) => decode_items(
+            alloc, compiled, operation, side, order, octets, values, items, taken, fault,
+        ),
+        _ => EMPTY,
+    };
+    interface.put(alloc, held);
+    status
+}
+
+/// Fills `values` with those of the response to a request that octets begin with, and `items` with their items.
+#[unsafe(no_mangle)]
+pub extern "C" fn dceidl_decode_response_items(
+    alloc: Global,
+    request: &mut Handle,
+    order: u32,
+    octets: &[u8],
+    values: &mut Handle,
+    items: &mut Handle,
+    taken: &mut usize,
+    fault: &mut Handle,
+) -> u32
+    ensures known { result ≤ REFUSED }
+    ensures not_short { result ≡ SHORT → ⊥ }
+    ensures same { request.new.value ≡ request.old.value }
+    ensures decoded { result ≡ OK → IsSomeAnd (values_in request.old.value)
+        (λ q. IsSomeAnd (values_in values.new.value) (λ v. IsResponse q order octets.now taken.new v)) }
+    ensures logged { result ≡ OK → IsSomeAnd (values_in request.old.value)
+        (λ q. IsSomeAnd (items_in items.new.value) (IsResponseItems q order octets.now)) }
+    ensures refused { result ≡ REFUSED → IsSomeAnd (values_in request.old.value)
+        (λ q. IsSomeAnd (refusal_in fault.new.value) (λ e. IsResponseRefusal q order octets.now e)) }
+    ensures argument { result ≡ ARGUMENT → IsSomeAnd (values_in request.old.value) (λ q. is_some (order_numbered order) ≡ true → q.side ≡ Out) }
+    ensures order { (result ≡ EMPTY → ⊥) → (result ≡ ARGUMENT → ⊥) → is_some (order_numbered order) ≡ true }
+    ensures request { (result ≡ EMPTY → ⊥) → (result ≡ ARGUMENT → ⊥) → IsSomeAnd (values_in request.old.value) (λ q. q.side ≡ In) }
+    ensures empty { result ≡ EMPTY → values_in request.old.value ≡ None }
+    ensures values_kept { (result ≡ OK → ⊥) → values.new.value ≡ values.old.value }
+    ensures items_kept { (result ≡ OK → ⊥) → items.new.value ≡ items.old.value }
+    ensures taken_kept { (result ≡ OK → ⊥) → taken.new ≡ taken.old }
+    ensures fault_kept { (result ≡ REFUSED → ⊥) → fault.new.value ≡ fault.old.value }
+{
+    let Some(held) = request.take(alloc) else {
+        return EMPTY;
+    };
+    let status = match &*held {
+        Held::Values(given) => decode_response_items(
+            alloc, given, order, octets, values, items, taken, fault,
+        ),
         _ => EMPTY,
     };
     request.put(alloc, held);

@@ -14,7 +14,8 @@ use Rattle.library_values.specs.Decoded.{IsDecodedOf, IsOctetsCause, IsOf}
 use Rattle.library_values.specs.Encoded.{IsWritten, IsEncodeCause}
 use Rattle.library_answers.specs.Answers.{side_numbered, order_numbered, values_in, refusal_in}
 use Rattle.library_answers.specs.Octets.{IsDecode, IsDecodeRefusal, IsResponse, IsResponseRefusal, IsEncode, IsEncodeRefusal}
-use Rattle.library_answers.proofs.Numbered.{there_and, of_side, of_order}
+use Rattle.library_answers.proofs.Numbered.{there_and, of_side, of_order, no_stream_side, no_stream_order, no_stream_operation, stream_there, order_is}
+use Rattle.library_answers.proofs.Logs.{items_are, response_items_are}
 
 pub decode_is : (i : Interface) (operation side order : ℕ) (octets : List ℕ) (s : Side) (r : Order) (made : Fitting) (count taken : ℕ) (held : Option Held)
     → operation < length i.operations → Some s ≡ side_numbered side → Some r ≡ order_numbered order
@@ -56,3 +57,8 @@ encode_is v order chunk old new r count many order_is written same =
 pub encode_refused : (v : Fitting) (chunk : ℕ) (e : Refusal) (held : Option Held) → IsEncodeCause v chunk e → (e ≡ Memory → ⊥) → refusal_in held ≡ Some e
     → IsSomeAnd (refusal_in held) (λ x. IsEncodeRefusal v chunk x)
 encode_refused v chunk e held cause reason filled = there_and (refusal_in held) e (λ x. IsEncodeRefusal v chunk x) filled (reason, cause)
+
+-- what functions that decode, and keep the items too, name
+pub ruleset decodes_both = (no_stream_side, no_stream_order, no_stream_operation, stream_there, decode_is, items_are, decode_refused)
+
+pub ruleset responses_both = (order_is, response_is, response_items_are, response_refused)

@@ -3,6 +3,7 @@
 #![tactic(auto)]
 
 mod answers;
+mod both;
 mod building;
 mod faults;
 mod fragments;
@@ -18,6 +19,7 @@ mod versions;
 mod writing;
 
 pub use answers::{ABSENT, ARGUMENT, EMPTY, MEMORY, OK, REFUSED, SHORT, WRONG_NODE, lay_out};
+pub use both::{decode_items, decode_response_items};
 pub use building::{build_reply, build_values, set_cell_type};
 pub use faults::write_line;
 pub use fragments::{Call, join_fragments, label_order, split_stub};

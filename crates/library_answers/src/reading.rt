@@ -57,7 +57,12 @@ pub fn decode(
 
 // Fills a handle with values, and says how many octets they took.
 #[inline(always)]
-fn fill_taken(alloc: Global, made: (Values, u32), values: &mut Handle, taken: &mut usize) -> u32
+pub(crate) fn fill_taken(
+    alloc: Global,
+    made: (Values, u32),
+    values: &mut Handle,
+    taken: &mut usize,
+) -> u32
     ensures known { result ≤ MEMORY }
     ensures not_empty { result ≡ EMPTY → ⊥ }
     ensures not_argument { result ≡ ARGUMENT → ⊥ }

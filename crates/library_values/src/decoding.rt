@@ -8,6 +8,7 @@ ghost use Rattle.nd_value.specs.Fitting.{setting_beside};
 ghost use Rattle.nd_value.specs.Request.{IsRequestOf};
 ghost use Rattle.command_refusals.specs.declared.refusal.Refusal.TheVariants as refusal;
 ghost use Rattle.library_values.specs.Decoded.{IsDecodedOf, IsOctetsCause, IsOf};
+ghost use Rattle.library_values.specs.Logged.{IsLoggedOf, empty_log};
 
 use crate::values::{Values, plan_of};
 use command_refusals::{OctetsFault, Refusal};
@@ -43,7 +44,8 @@ impl Values {
         ensures refused { (o : Operation) → slice_get compiled.now.value.operations op ≡ Some o
             → IfErr result (IsOctetsCause (setting_beside compiled.now.value o side None) order octets.now) }
     {
-        decode_beside(alloc, compiled, op, side, None, order, octets)
+        let mut items = ItemLog::quiet();
+        decode_beside(alloc, compiled, op, side, None, order, octets, &mut items)
     }
 
     /// The values of the response to a request that octets begin with, in NDR (C706, chapter 14), judged with the request, and how many octets they
@@ -89,12 +91,22 @@ fn decode_given(
     // A fit is of an operation of its interface.
     let _conforming = request.flat();
     let op = request.op();
-    decode_beside(alloc, compiled, op, Side::Out, Some(request), order, octets)
+    let mut items = ItemLog::quiet();
+    decode_beside(
+        alloc,
+        compiled,
+        op,
+        Side::Out,
+        Some(request),
+        order,
+        octets,
+        &mut items,
+    )
 }
 
 // The values that octets begin with, with a request or without one.
 #[inline(always)]
-fn decode_beside(
+pub(crate) fn decode_beside(
     alloc: Global,
     compiled: &Rc<Compiled>,
     op: u32,
@@ -102,6 +114,7 @@ fn decode_beside(
     given: Option<&Fit>,
     order: Order,
     octets: &[u8],
+    items: &mut ItemLog,
 ) -> Result<(Values, u32), Refusal>
     requires known { op < length compiled.now.value.operations }
     requires request { IsRequestOf compiled.now.value op side (option_map (λ f. f.now) given) }
@@ -109,12 +122,15 @@ fn decode_beside(
         → IfOk result (λ d. IsDecodedOf (setting_beside compiled.now.value o side (option_map (λ f. f.now.graph) given.entry)) order octets.now
         d.1 d.0.graph) }
     ensures of { IfOk result (λ d. IsOf compiled.now.value op side (option_map (λ f. f.now.graph) given.entry) d.0) }
+    ensures logged { (o : Operation) → slice_get compiled.now.value.operations op ≡ Some o → items.old ≡ empty_log
+        → IfOk result
+        (λ _. IsLoggedOf (setting_beside compiled.now.value o side (option_map (λ f. f.now.graph) given.entry)) order octets.now items.new.items) }
     ensures refused { (o : Operation) → slice_get compiled.now.value.operations op ≡ Some o
         → IfErr result
         (IsOctetsCause (setting_beside compiled.now.value o side (option_map (λ f. f.now.graph) given.entry)) order octets.now) }
 {
     let plan = plan_of(compiled);
-    match decode_lent(alloc, plan, op, side, given, order, octets) {
+    match decode_lent(alloc, plan, op, side, given, order, octets, items) {
         Ok(decoded) => held(compiled, decoded),
         Err(refusal) => Err(refusal),
     }
@@ -133,9 +149,9 @@ fn held(compiled: &Rc<Compiled>, decoded: Decoded) -> Result<(Values, u32), Refu
     }
 }
 
-// What octets begin with, by the plan of an interface.
+// What octets begin with, by the plan of an interface. Their items go to a log.
 #[inline(always)]
-fn decode_lent(
+pub(crate) fn decode_lent(
     alloc: Global,
     plan: &Plan,
     op: u32,
@@ -143,6 +159,7 @@ fn decode_lent(
     given: Option<&Fit>,
     order: Order,
     octets: &[u8],
+    items: &mut ItemLog,
 ) -> Result<Decoded, Refusal>
     requires known { op < length plan.now.tie.operations }
     requires request { IsRequestOf plan.now.tie op side (option_map (λ f. f.now) given) }
@@ -150,11 +167,12 @@ fn decode_lent(
         → IfOk result
         (λ d. IsDecodedOf (setting_beside i o side (option_map (λ f. f.now.graph) given.entry)) order octets.now d.taken d.fit.graph) }
     ensures of { IfOk result (λ d. IsOf plan.now.tie op side (option_map (λ f. f.now.graph) given.entry) d.fit) }
+    ensures logged { (i : Interface) (o : Operation) → plan.now.tie ≡ i → slice_get i.operations op ≡ Some o → items.old ≡ empty_log
+        → IfOk result (λ _. IsLoggedOf (setting_beside i o side (option_map (λ f. f.now.graph) given.entry)) order octets.now items.new.items) }
     ensures refused { (i : Interface) (o : Operation) → plan.now.tie ≡ i → slice_get i.operations op ≡ Some o
         → IfErr result (IsOctetsCause (setting_beside i o side (option_map (λ f. f.now.graph) given.entry)) order octets.now) }
 {
     let mut source = LentSource::new(octets);
-    let mut items = ItemLog::quiet();
     let mut steps = Steps::new(Uncounted::new());
     match decode(
         alloc,
@@ -164,7 +182,7 @@ fn decode_lent(
         order,
         given,
         &mut source,
-        &mut items,
+        items,
         &mut steps,
     ) {
         Ok(decoded) => Ok(decoded),

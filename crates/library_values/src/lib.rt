@@ -2,6 +2,7 @@
 //! of octets in memory, one after the other.
 #![tactic(auto)]
 
+mod both;
 mod decoding;
 mod encoding;
 mod logging;

@@ -10,13 +10,13 @@ ghost use Rattle.library_values.specs.Decoded.{IsOctetsCause};
 ghost use Rattle.library_values.specs.Logged.{IsLoggedOf};
 
 use crate::Values;
-use command_refusals::{OctetsFault, Refusal};
+use crate::decoding::decode_lent;
+use command_refusals::Refusal;
 use library_interface::Compiled;
-use nd_base::{LentSource, Order, Steps, Uncounted};
+use nd_base::Order;
 use nd_graph::{Fit, ItemLog};
 use nd_types::Side;
 use ndr_code::Plan;
-use ndr_decode::{DecodeFault, decode};
 use std::alloc::Global;
 
 /// The items of the values of a side of an operation that octets begin with, in NDR (C706, chapter 14). `op` must be the number of an operation. A
@@ -123,26 +123,9 @@ fn log_lent(
     ensures refused { (i : Interface) (o : Operation) → plan.now.tie ≡ i → slice_get i.operations op ≡ Some o
         → IfErr result (IsOctetsCause (setting_beside i o side (option_map (λ f. f.now.graph) given.entry)) order octets.now) }
 {
-    let mut source = LentSource::new(octets);
     let mut items = ItemLog::keeping(alloc);
-    let mut steps = Steps::new(Uncounted::new());
-    match decode(
-        alloc,
-        plan,
-        op,
-        side,
-        order,
-        given,
-        &mut source,
-        &mut items,
-        &mut steps,
-    ) {
+    match decode_lent(alloc, plan, op, side, given, order, octets, &mut items) {
         Ok(_) => Ok(items),
-        Err(DecodeFault::Memory) => Err(Refusal::Memory),
-        Err(DecodeFault::ReadFault) => unreachable!(),
-        Err(DecodeFault::Bad { place, reason }) => Err(Refusal::BadOctets {
-            place,
-            why: OctetsFault::Refused(reason),
-        }),
+        Err(refusal) => Err(refusal),
     }
 }

@@ -4,7 +4,8 @@ use Rattle.nd_value.specs.Fitting.{Fitting, setting_beside}
 use Rattle.nd_value.specs.Request.{IsRequestOf}
 use Rattle.command_refusals.specs.declared.refusal.Refusal.TheVariants as refusal
 use Rattle.library_values.specs.Decoded.{IsDecodedOf, IsOctetsCause, IsOf}
-use Rattle.library_interface.proofs.Results.{both_ok, same_err}
+use Rattle.library_values.specs.Logged.{IsLoggedOf}
+use Rattle.library_interface.proofs.Results.{both_ok, any_ok, same_err}
 use Rattle.library_values.proofs.decoding.decode_beside.Goals as goal
 
 pub decode_lent-requires-clause-known : goal.decode_lent-requires-clause-known
@@ -31,6 +32,13 @@ returns-in-Ok-clause-of c =
     let d = c.in-Ok.decoded in
     both_ok c.held.result d.fit d.taken (λ (f : Fitting) (n : ℕ). IsOf c.args.compiled.now.value c.args.op c.args.side q f) c.held.ensures.ok
     (subst (λ (j : Interface). IsOf j c.args.op c.args.side q d.fit) c.plan_of-plan.ensures c.in-Ok.ensures.of)
+
+pub returns-in-Ok-clause-logged : goal.returns-in-Ok-clause-logged
+returns-in-Ok-clause-logged c o there fresh =
+    let i = c.args.compiled.now.value in
+    let q = option_map (λ f. f.now.graph) c.args.given in
+    any_ok c.held.result (IsLoggedOf (setting_beside i o c.args.side q) c.args.order c.args.octets.now c.decode_lent.new.items.items)
+    (c.in-Ok.ensures.logged i o c.plan_of-plan.ensures there fresh)
 
 pub returns-in-Ok-clause-refused : goal.returns-in-Ok-clause-refused
 returns-in-Ok-clause-refused c o there =
