@@ -1,13 +1,14 @@
 #!/usr/bin/env python3
 """Builds the library and tries it in programs in C, under valgrind and AddressSanitizer.
 
-    tests/library.py [--prefix FOLDER] [--copies COUNT] [examples|calls|streams ..]
+    tests/library.py [--prefix FOLDER] [--copies COUNT] [examples|calls|streams|symbols ..]
 
 `examples` runs the program of README.md and those of examples/c, examples/python and examples/rust, and compares what they print. `calls` tries what
 tests/library/calls.c asks of faults, fragments, labels, versions and listings, tests/library/nodes.c of nodes and items, and tests/library/types.c of
 what an interface has. `streams` decodes
 the octets of tests/outside and mutated copies of them (tests/library/streams.c), reads the values by their nodes and items, and builds them of their
-nodes: COUNT copies of each under AddressSanitizer, 800 if it is left out, and a twentieth of these under valgrind. The library is built and installed
+nodes: COUNT copies of each under AddressSanitizer, 800 if it is left out, and a twentieth of these under valgrind. `symbols` compares what the libraries export
+with tests/library/symbols.txt. The library is built and installed
 in a folder of its own, or taken from FOLDER, as bin/dceidl-lib fills it.
 
 It needs `cc`; what else is missing is named and left out. The last line is `N passed, M failed, K left out`, and the status is 1 if one failed.
@@ -137,7 +138,19 @@ def streams(run: Run) -> None:
     sanitized(run, ROOT / "tests" / "library" / "streams.c", counts, None, "".join(stream_lines()))
 
 
-PARTS: Dict[str, object] = {"examples": examples, "calls": calls, "streams": streams}
+def symbols(run: Run) -> None:
+    """What both libraries export: the calls of tests/library/symbols.txt, and nothing else; and the name by which the shared one is found."""
+    wanted = (ROOT / "tests" / "library" / "symbols.txt").read_text(encoding="utf-8").split()
+    for which, name in (("-g", "libdceidl.a"), ("-D", "libdceidl.so.0")):
+        ran = subprocess.run(["nm", which, "--defined-only", f"{run.prefix}/lib/{name}"], capture_output=True, text=True)
+        rows = [line.split() for line in ran.stdout.splitlines()]
+        found = {row[2].split("@")[0] for row in rows if len(row) == 3 and row[1] != "A"}
+        run.note(f"symbols of {name}", [f"{symbol}: not in both" for symbol in sorted({*wanted} ^ found)])
+    ran = subprocess.run(["objdump", "-p", f"{run.prefix}/lib/libdceidl.so.0"], capture_output=True, text=True)
+    run.note("soname", [] if "libdceidl.so.0" in [line.split()[1] for line in ran.stdout.splitlines() if "SONAME" in line] else [ran.stdout])
+
+
+PARTS: Dict[str, object] = {"examples": examples, "calls": calls, "streams": streams, "symbols": symbols}
 
 
 def main() -> int:
