@@ -44,8 +44,11 @@ module _ (fetched : List ℕ) where
     same_lines w g [] a = refl
     same_lines w g (x ∷ xs) a = ap₂ (λ r t. (item_head x ++ r) ++ t) (same_rest w g x x.kind a.0) (same_lines w g xs a.1)
 
+    abbrev count_of : List ℕ → ℕ
+    count_of os = elim (are_zero os) [ true ↦ 0 | false ↦ 1 ]
+
     same_count : (x : Item) (k : ItemKind) → IsWithin x → filled (fetched ++ more) k x ≡ filled fetched k x
-    same_count x kind.Gap h = ap (λ os. elim (are_zero os) [ true ↦ 0 | false ↦ 1 ]) (same_octets x h)
+    same_count x kind.Gap h = ap count_of (same_octets x h)
     same_count x _ h = refl
 
     -- and so are the gaps that are not zero

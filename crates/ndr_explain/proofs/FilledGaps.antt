@@ -14,11 +14,14 @@ counted_next octets xs i x n m r there is more so_far =
     let e : filled_gaps octets (drop i xs) ≡ filled octets x.kind x + filled_gaps octets (drop (i + 1) xs) = ap (filled_gaps octets) (drop_next xs i x there) in
     omega (arith, e, is, more, so_far)
 
-pub none_of : (os : List ℕ) → are_zero os ≡ true → 0 ≡ elim (are_zero os) [ true ↦ 0 | false ↦ 1 ]
-none_of os e = sym (ap (λ b. elim b [ true ↦ 0 | false ↦ 1 ]) e)
+abbrev as_count : Bool → ℕ
+as_count b = elim b [ true ↦ 0 | false ↦ 1 ]
 
-pub one_of : (os : List ℕ) → are_zero os ≡ false → 1 ≡ elim (are_zero os) [ true ↦ 0 | false ↦ 1 ]
-one_of os e = sym (ap (λ b. elim b [ true ↦ 0 | false ↦ 1 ]) e)
+pub none_of : (os : List ℕ) → are_zero os ≡ true → ◌≡◌ {A = ℕ} 0 (elim (are_zero os) [ true ↦ 0 | false ↦ 1 ])
+none_of os e = sym (ap as_count e)
+
+pub one_of : (os : List ℕ) → are_zero os ≡ false → ◌≡◌ {A = ℕ} 1 (elim (are_zero os) [ true ↦ 0 | false ↦ 1 ])
+one_of os e = sym (ap as_count e)
 
 pub no_gap_shown : (os : List ℕ) → are_zero os ≡ true → gap_shown os ≡ []
 no_gap_shown os e = ap (λ b. elim b [ true ↦ [] | false ↦ codes " x\"" ++ (hex_text os ++ codes "\"") ]) e
