@@ -1,6 +1,6 @@
 -- Gaps whose octets are not all zero: what is shown of them, and how many they are, counted one item at a time.
 -- `xs` are items, `x` is one of them, `octets` are those of a stream.
-use Rattle.std.proofs.Common.{◌≡◌, ℕ, ◌+◌, ◌≤◌, true, false, List, [], ◌++◌, codes, drop, length, Some, ap, arith, sym}
+use Rattle.std.proofs.Common.{◌≡◌, ℕ, ◌+◌, ◌≤◌, Bool, true, false, List, [], ◌++◌, codes, drop, length, Some, ap, arith, sym}
 use Rattle.std.specs.List.{slice_get}
 use Rattle.nd_value.specs.declared.item.Item.{Item}
 use Rattle.text_grammar.specs.Written.{hex_text}
