@@ -4,13 +4,14 @@
     tests/promises.py             prints what is wrong with the page, a line each; the status is 1 where something is
     tests/promises.py --list      prints each public function with the names of its clauses, and each must-fail edit, crate by crate
     tests/promises.py --list NAME ..    only of these crates
+    tests/promises.py --rows [LINE ..]  prints each row of the page, or those on these lines, with the text of the clauses that it names
 
 A row of the page has a promise, functions with clauses, must-fail edits and what is not promised. Functions are written `crate: function, clause`: a
 method as `Type::method` or `Trait::method`, and where several modules have a function of one name `module::function`. The clause is an `ensures` or
 `requires` by its name, or that word where the only one has no name; of an invariant `crate: Type, name` names the ghost member. An edit is `NAME` for the
 crate that the row names first, and `CRATE/NAME` for another. Checked is that the crate is listed and there, that the function is in its sources, that the
 clause is in the function's signature (or in its trait's, if a method of an `impl` has no clause), and that each edit is a file. Whether a clause says what
-the row says, only a reader can see.
+the row says, only a reader can see: `--rows` has them side by side.
 """
 
 from __future__ import annotations
@@ -50,7 +51,7 @@ class Function:
     """A function: its clauses, and the type, trait or module that it is in."""
 
     name: str
-    clauses: Set[str]
+    clauses: Dict[str, str]  # the text of each by its name
     owner: Optional[str]  # the type or trait of its block
     trait: Optional[str]  # the trait that its block implements
     module: str
@@ -63,7 +64,7 @@ class Crate:
 
     functions: List[Function] = field(default_factory=list)
     types: Set[str] = field(default_factory=set)
-    ghosts: Set[Tuple[str, str]] = field(default_factory=set)  # of a type: its ghost members and fields
+    ghosts: Dict[Tuple[str, str], str] = field(default_factory=dict)  # of a type: the text of its ghost members and fields
     edits: Set[str] = field(default_factory=set)
 
 
@@ -82,9 +83,14 @@ def closing(code: str, at: int) -> int:
     return len(code)
 
 
-def clauses_of(code: str, at: int) -> Set[str]:
-    """The clauses of the signature that begins at `at`, by name. One without a name is named by its word."""
-    found, depth, place, start = set(), 0, at, at
+def words_of(text: str) -> str:
+    """A text on one line."""
+    return " ".join(text.split())
+
+
+def clauses_of(code: str, at: int, text: str) -> Dict[str, str]:
+    """The clauses of the signature that begins at `at`, by name, with their texts. One without a name is named by its word."""
+    found, depth, place, start = {}, 0, at, at
     while place < len(code):
         sign = code[place]
         depth += {"(": 1, "[": 1, ")": -1, "]": -1}.get(sign, 0)
@@ -94,8 +100,9 @@ def clauses_of(code: str, at: int) -> Set[str]:
             clause = CLAUSE.search(code, start, place)
             if clause is None:
                 break
-            found.add(clause["name"] or clause["kind"])
-            place = start = closing(code, place)
+            end = closing(code, place)
+            found[clause["name"] or clause["kind"]] = words_of(text[clause.start() : end])
+            place = start = end
         else:
             place += 1
     return found
@@ -135,17 +142,20 @@ def blocks(code: str) -> Iterator[Tuple[Optional[str], Optional[str], int, int, 
 
 def read_source(path: Path, crate: Crate) -> None:
     """Adds what one file holds to its crate."""
-    code = code_of(path.read_text(encoding="utf-8"))
+    text = path.read_text(encoding="utf-8")
+    code = code_of(text)
     around = list(blocks(code))
     crate.types.update(re.findall(r"\b(?:struct|enum|trait)\s+(\w+)", code))
     for name, _, start, end, _ in around:
-        crate.ghosts.update((name, ghost) for ghost in GHOST.findall(code[start:end]))
+        for match in GHOST.finditer(code, start, end):
+            brace = code.find("{", match.end())
+            crate.ghosts[(name, match["name"])] = words_of(text[match.start() : closing(code, brace) if brace >= 0 else match.end()])
     for match in FUNCTION.finditer(code):
         inside = [block for block in around if block[2] < match.start() < block[3]]
         owner, trait = inside[-1][:2] if inside else (None, None)
         module = path.parent.name if path.stem == "mod" else path.stem
         is_public = bool(PUBLIC.search(code[: match.start()])) or bool(trait) or bool(inside and inside[-1][4] == "trait")
-        crate.functions.append(Function(match["name"], clauses_of(code, match.end()), owner, trait, module, is_public))
+        crate.functions.append(Function(match["name"], clauses_of(code, match.end(), text), owner, trait, module, is_public))
 
 
 def read_crates(root: Path) -> Dict[str, Crate]:
@@ -197,27 +207,27 @@ def spans(cell: str) -> Optional[List[str]]:
     return SPAN.findall(cell) if rest == ("" if "`" in cell else "-") else None
 
 
-def clauses_at(crates: Dict[str, Crate], crate: Crate, path: str) -> Optional[Set[str]]:
-    """The clauses of a function or the ghost members of a type; None if the crate has none."""
+def clauses_at(crates: Dict[str, Crate], crate: Crate, path: str) -> Optional[Dict[str, str]]:
+    """The clauses of a function or the ghost members of a type, with their texts; None if the crate has none."""
     owner, _, name = path.rpartition("::")
     if not owner and name in crate.types:
-        return {ghost for of, ghost in crate.ghosts if of == name}
+        return {ghost: text for (of, ghost), text in crate.ghosts.items() if of == name}
     here = [f for f in crate.functions if f.name == name and (f.owner == owner if owner else f.owner is None)]
     here = here or [f for f in crate.functions if f.name == name and f.owner is None and f.module == owner]
-    found = set()
+    found: Dict[str, str] = {}
     for function in here:
-        found |= function.clauses or clauses_of_trait(crates, function)
+        found.update(function.clauses or clauses_of_trait(crates, function))
     return found if here else None
 
 
-def clauses_of_trait(crates: Dict[str, Crate], method: Function) -> Set[str]:
+def clauses_of_trait(crates: Dict[str, Crate], method: Function) -> Dict[str, str]:
     """The clauses that a method without any has from the trait that its block implements."""
     declared = (f for crate in crates.values() for f in crate.functions)
     return {
-        clause
+        clause: text
         for f in declared
         if method.trait is not None and f.owner == method.trait and f.trait is None and f.name == method.name
-        for clause in f.clauses
+        for clause, text in f.clauses.items()
     }
 
 
@@ -296,7 +306,26 @@ def listed(crates: Dict[str, Crate], names: List[str], root: Path = ROOT) -> Ite
             yield f"  must fail{', on demand' if edit in on_demand else ''}: {edit}"
 
 
+def side_by_side(crates: Dict[str, Crate], rows: List[Row]) -> Iterator[str]:
+    """Rows, each with the texts of the clauses that it names."""
+    for row in rows:
+        promise, places, edits, not_promised = row.cells
+        yield f"line {row.line}: {promise}"
+        yield f"    not promised: {not_promised}; edits: {edits}"
+        for span in spans(places) or []:
+            place = PLACE.fullmatch(span)
+            crate = crates.get(place["crate"]) if place else None
+            clauses = clauses_at(crates, crate, place["function"]) if crate else None
+            yield f"    {span}"
+            yield f"        {(clauses or {}).get(place['clause'] if place else None, 'not found')}"
+        yield ""
+
+
 def main(words: List[str]) -> int:
+    if words[:1] == ["--rows"]:
+        rows, _ = read_rows((ROOT / "docs" / "PROMISES.md").read_text(encoding="utf-8"))
+        print("\n".join(side_by_side(read_crates(ROOT), [row for row in rows if str(row.line) in words[1:] or not words[1:]])))
+        return 0
     if words[:1] == ["--list"]:
         crates = read_crates(ROOT)
         unknown = [name for name in words[1:] if name not in crates]
