@@ -10,6 +10,9 @@ use Rattle.ndr_trace.proofs.HomeWalks.{turned_round, value_names}
 use Rattle.ndr_trace_value.proofs.Passing.{err_as}
 use Rattle.ndr_trace.proofs.homes.walk_home.Goals as goal
 
+pub walk_level-requires : goal.walk_level-requires
+walk_level-requires c = record { some = omega arith }
+
 pub returns-in_err-walk_level-clause-ends : goal.returns-in_err-walk_level-clause-ends
 returns-in_err-walk_level-clause-ends c k u a from rest names tr nm e =
     let front = c.in_ok-max.ensures.goes k u a from rest tr in

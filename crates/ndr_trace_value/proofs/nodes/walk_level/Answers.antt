@@ -25,6 +25,9 @@ loop-next-init c = record {
       omega (arith, same);
 }
 
+pub take_node-requires : goal.take_node-requires
+take_node-requires c = record { some = c.loop-next.invariant.some }
+
 pub loop-next-smaller : goal.loop-next-smaller
 loop-next-smaller c = (subst (GoesDown c.args.ground.now.interface.now.types c.loop-next.levels) c.in-Some.is c.in_ok-next.ensures.down).1
 
