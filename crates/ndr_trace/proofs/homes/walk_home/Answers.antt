@@ -1,4 +1,4 @@
-use Rattle.std.proofs.Common.{◌≡◌, ◌+◌, ◌≤◌, rules, ◌∷◌, ◌++◌, [], refl, sym, ap, ◌∙◌, length, subst, arith}
+use Rattle.std.proofs.Common.{◌≡◌, ◌+◌, rules, ◌∷◌, ◌++◌, [], refl, sym, ap, length, subst, arith}
 use Rattle.nd_value.specs.Tree.{more, none}
 use Rattle.text_grammar.specs.Paths.{home_value}
 use Rattle.ndr_trace_value.specs.declared.progress.Halt.TheVariants as halts

@@ -1,10 +1,6 @@
 use Rattle.std.proofs.Common.{refl}
-use Rattle.nd_types.specs.Table.{type_at}
-use Rattle.nd_value.specs.declared.item.Home.TheVariants as home
 use Rattle.ndr_explain.specs.declared.names.HomeName.TheVariants as named
 use Rattle.ndr_trace_value.specs.declared.progress.Halt.TheVariants as halts
-use Rattle.ndr_trace.specs.Homes.{HasHome, direct_of}
-use Rattle.ndr_trace.proofs.PartialHomes.{root_has_home}
 use Rattle.ndr_trace_value.proofs.Passing.{err_as}
 use Rattle.ndr_trace.proofs.RootWalks.{own_of}
 use Rattle.ndr_trace.proofs.SolePointers.{from_root}

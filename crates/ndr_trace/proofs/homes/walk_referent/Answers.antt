@@ -1,4 +1,4 @@
-use Rattle.std.proofs.Common.{◌≡◌, ◌+◌, ◌≤◌, rules, true, false, length, refl, sym, ap, arith, le_refl, vec_len, ◌∙◌}
+use Rattle.std.proofs.Common.{◌≡◌, rules, true, false, length, refl, sym, ap, arith, le_refl, vec_len, ◌∙◌}
 use Rattle.ndr_trace_value.specs.declared.progress.Halt.TheVariants as halts
 use Rattle.ndr_trace_value.specs.declared.nodes.Walker.{Walker}
 use Rattle.ndr_trace_value.proofs.Passing.{err_as}

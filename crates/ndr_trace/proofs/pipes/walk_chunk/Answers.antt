@@ -1,4 +1,4 @@
-use Rattle.std.proofs.Common.{◌≡◌, ◌+◌, ◌*◌, [], ◌∷◌, refl, arith}
+use Rattle.std.proofs.Common.{◌≡◌, ◌*◌, ◌∷◌, refl, arith}
 use Rattle.nd_value.specs.declared.item.Home.TheVariants as homes
 use Rattle.nd_grammar.specs.Entry.{Chunk}
 use Rattle.ndr_trace_value.specs.declared.progress.Halt.TheVariants as halts

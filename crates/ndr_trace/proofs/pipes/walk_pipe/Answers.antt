@@ -1,8 +1,7 @@
-use Rattle.std.proofs.Common.{rules, refl, ◌≡◌, ◌<◌, ◌≤◌, ◌+◌, ◌^◌, ◌∙◌, ◌++◌, length, Some, None, option_map, sym, ap, subst, arith, le_refl}
+use Rattle.std.proofs.Common.{refl, ◌≡◌, ◌≤◌, ◌∙◌, length, option_map, sym, ap, subst, arith, le_refl}
 use Rattle.nd_types.specs.Table.{type_at}
 use Rattle.nd_value.specs.declared.item.Home.TheVariants as homes
 use Rattle.nd_value.specs.Setting.{root_at}
-use Rattle.nd_grammar.specs.Stream.{pipe_entries}
 use Rattle.ndr_explain.specs.Cursors.{pipe_element}
 use Rattle.ndr_explain.specs.declared.names.HomeName.TheVariants as named
 use Rattle.ndr_trace_value.specs.declared.progress.Halt.TheVariants as halts
@@ -31,6 +30,7 @@ returns-in_default-clause-goes c k u part root cut cuts rest names tr nm =
 pub loop-chunk-init : goal.loop-chunk-init
 loop-chunk-init c = record {
   many = le_refl _;
+  small = omega arith;
   taken = omega arith;
   here = λ k u part root cut cuts rest names tr nm.
       let ready = ready_after k c.args.ground.now u c.args.walker.now.progress c.args.walker.now.progress refl c.in_ok-at_end.ensures.ready in
@@ -74,6 +74,7 @@ loop-chunk-preserved c =
     let sum = c.in-Some-checked_add.ensures.1 in
     record {
       many = omega (arith, many, sum, c.if-size-eq0.false);
+      small = (let room = c.in-Some-checked_add.ensures.0 in omega (arith, room, sum));
       taken = omega (arith, so_far, sum, taken);
       here = λ k u part root cut cuts rest names tr nm.
           let g = c.loop-chunk.invariant.here k u part root cut cuts rest names tr nm in
@@ -84,5 +85,5 @@ loop-chunk-preserved c =
 pub unreachable-requires : goal.unreachable-requires
 unreachable-requires c =
     let many : c.loop-chunk._chunk ≤ c.loop-chunk.before = c.loop-chunk.invariant.many in
-    let few : c.loop-chunk.before < 2 ^ 32 = search rules in
+    let few = c.loop-chunk.invariant.small in
     omega (arith, many, few, c.loop-chunk-test.false)

@@ -1,4 +1,4 @@
-use Rattle.std.proofs.Common.{ℕ, ◌≤◌, ◌++◌, List}
+use Rattle.std.proofs.Common.{ℕ, ◌<◌, ◌≤◌, ◌^◌, ◌++◌, List}
 use Rattle.nd_types.specs.Table.{type_at}
 use Rattle.nd_value.specs.declared.item.Home.TheVariants as homes
 use Rattle.nd_value.specs.Deferral.{Placed_cells}
@@ -16,6 +16,7 @@ use Rattle.ndr_trace.proofs.pipes.walk_pipe.Given as goal
 abbrev pub invariant-loop-chunk : goal.invariant-loop-chunk
 invariant-loop-chunk l = record {
   many : l._chunk ≤ l.before;
+  small : l.before < 2 ^ 32;
   taken : l.before ≤ l.walker.progress.next;
   here : (k : Known) → IsGround k l.ground → IsPart k → IsRoot k l.at l.root → (cut : List ℕ) → Cuts (count (kids_of (root_at k.graph l.at))) cut
       → (rest : List Entry) (names : Placed_cells)

@@ -1,10 +1,9 @@
-use Rattle.std.proofs.Common.{refl, ◌≡◌, ◌∙◌, ◌<◌, ◌≤◌, ◌+◌, Some, None, false, true, length, sym, ap, subst, arith, le_refl}
-use Rattle.std.specs.Prelude.{IfOk, IsErrOf, Ok}
+use Rattle.std.proofs.Common.{refl, ◌≡◌, ◌∙◌, ◌<◌, Some, None, sym, ap, subst, arith, le_refl}
+use Rattle.std.specs.Prelude.{Ok}
 use Rattle.nd_types.specs.Layout.{align_of, hoists, hoists_by}
 use Rattle.nd_types.specs.Table.{type_at}
 use Rattle.nd_types.proofs.LayoutLaws.{hoists-legal}
 use Rattle.ndr_trace_value.specs.declared.progress.Halt.TheVariants as halts
-use Rattle.ndr_trace_value.specs.Tracing.{IsEnded}
 use Rattle.ndr_trace_value.specs.Walking.{width_by}
 use Rattle.nd_grammar.proofs.reader.FewNodes.{some_bound}
 use Rattle.ndr_trace_value.specs.declared.shapes.Shape.TheVariants as shape

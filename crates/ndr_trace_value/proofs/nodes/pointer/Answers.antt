@@ -1,4 +1,4 @@
-use Rattle.std.proofs.Common.{[], ◌+◌, ◌∷◌, ◌∙◌, arith, refl, ap, subst, sym}
+use Rattle.std.proofs.Common.{◌∷◌, ◌∙◌, arith, refl, ap, subst, sym}
 use Rattle.nd_value.specs.Tree as tree
 use Rattle.nd_grammar.specs.Entry.{Number}
 use Rattle.ndr_trace_value.specs.declared.progress.Halt.TheVariants as halts

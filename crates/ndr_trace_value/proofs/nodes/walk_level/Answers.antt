@@ -1,4 +1,4 @@
-use Rattle.std.proofs.Common.{rules, ◌≡◌, ◌+◌, ◌≤◌, ◌∙◌, None, Some, reverse, refl, sym, append-nil, ap, ap₂, arith, le_refl, subst}
+use Rattle.std.proofs.Common.{rules, ◌≡◌, ◌+◌, ◌≤◌, ◌∙◌, None, Some, reverse, sym, append-nil, ap, arith, le_refl, subst}
 use Rattle.ndr_explain.specs.Cursors.{level_paths, level_places, level_types, name_text, paths_from, places_from, types_from}
 use Rattle.ndr_trace_value.specs.declared.progress.Halt.TheVariants as halts
 use Rattle.ndr_trace_value.specs.Left.{GoesDown, items_left, least_items, total}
