@@ -1,8 +1,10 @@
 """README.md: each line that begins with `$` is run, and prints what the page shows after it."""
 
+from dataclasses import replace
+
 from case import Check, commands
 
-LINES = commands("README.md")
+LINES = [replace(line, alone=" drain " in line.line or "pipe0.out" in line.line) for line in commands("README.md")]  # `drain` writes files
 MANY = 8  # lines that the page has at least
 
 CASES = [
