@@ -32,16 +32,16 @@ use Rattle.command_refusals.specs.Loads.{IsLoadCause}
 use Rattle.command_compile.specs.Reading.{IsReportedUnparsed, IsOrMemory, IsJudged, MeansAfter, AsksAfter, AsksOfImports}
 
 -- tokens that are no file of the language are a main file that is refused
-pub unparsed_main : {language : Language} (text : List ℕ) (l : Lexed) → l.text ≡ text → AreTokens text l.tokens → (f : SyntaxFault)
+pub unparsed_main : (language : Language) (text : List ℕ) (l : Lexed) → l.text ≡ text → AreTokens text l.tokens → (f : SyntaxFault)
     → Told (λ a. Answers grammar.file (lexemes language l) a) (Err f) → (r : NameFault) → IsReportedUnparsed l f r → IsMainFault language text r
-unparsed_main {language} text l same tokens parser.Memory h r told = subst (IsMainFault language text) (sym told) tt
-unparsed_main {language} text l same tokens (parser.Syntax k) h r told =
+unparsed_main language text l same tokens parser.Memory h r told = subst (IsMainFault language text) (sym told) tt
+unparsed_main language text l same tokens (parser.Syntax k) h r told =
     subst (IsMainFault language text) (sym told)
     (refl, record { lexed = l; told = Syntax k; token = k; is_told = (refl, refl); read = record { text_is = same; tokens = tokens; answered = h }; octet = refl })
-unparsed_main {language} text l same tokens (parser.Deep k) h r told =
+unparsed_main language text l same tokens (parser.Deep k) h r told =
     subst (IsMainFault language text) (sym told)
     (refl, record { lexed = l; told = Passes Depth k; token = k; is_told = (refl, refl); read = record { text_is = same; tokens = tokens; answered = h }; octet = refl })
-unparsed_main {language} text l same tokens (parser.Banned k) h r told =
+unparsed_main language text l same tokens (parser.Banned k) h r told =
     subst (IsMainFault language text) (sym told)
     (refl, record { lexed = l; told = Passes Ban k; token = k; is_told = (refl, refl); read = record { text_is = same; tokens = tokens; answered = h }; octet = refl })
 
@@ -52,29 +52,29 @@ one_source (x ∷ []) e = (x.name, x.text, λ language. refl)
 one_source (x ∷ y ∷ s) e = cc
 
 -- a fault of the main file is of no import
-pub main_absent : {language : Language} (before now : ℕ) (text : List ℕ) (f : NameFault) → IsMainFault language text f → IsAbsent before now f
-main_absent before now text names.Memory h = tt
-main_absent before now text (names.Unknown p) h = tt
-main_absent before now text (names.Twice p q) h = tt
-main_absent before now text (names.Const p x) h = tt
-main_absent before now text (names.ImportCycle p) h = tt
-main_absent before now text (names.TooMany p) h = tt
-main_absent before now text (names.Absent n) h = absurd h
-main_absent before now text (names.Failed n) h = absurd h
-main_absent before now text (names.Lex n x) h = tt
-main_absent before now text (names.Syntax n at x) h = tt
+pub main_absent : (language : Language) (before now : ℕ) (text : List ℕ) (f : NameFault) → IsMainFault language text f → IsAbsent before now f
+main_absent language before now text names.Memory h = tt
+main_absent language before now text (names.Unknown p) h = tt
+main_absent language before now text (names.Twice p q) h = tt
+main_absent language before now text (names.Const p x) h = tt
+main_absent language before now text (names.ImportCycle p) h = tt
+main_absent language before now text (names.TooMany p) h = tt
+main_absent language before now text (names.Absent n) h = absurd h
+main_absent language before now text (names.Failed n) h = absurd h
+main_absent language before now text (names.Lex n x) h = tt
+main_absent language before now text (names.Syntax n at x) h = tt
 
-pub main_failed : {language : Language} (before now : ℕ) (text : List ℕ) (f : NameFault) → IsMainFault language text f → IsFailed before now f
-main_failed before now text names.Memory h = tt
-main_failed before now text (names.Unknown p) h = tt
-main_failed before now text (names.Twice p q) h = tt
-main_failed before now text (names.Const p x) h = tt
-main_failed before now text (names.ImportCycle p) h = tt
-main_failed before now text (names.TooMany p) h = tt
-main_failed before now text (names.Absent n) h = absurd h
-main_failed before now text (names.Failed n) h = absurd h
-main_failed before now text (names.Lex n x) h = tt
-main_failed before now text (names.Syntax n at x) h = tt
+pub main_failed : (language : Language) (before now : ℕ) (text : List ℕ) (f : NameFault) → IsMainFault language text f → IsFailed before now f
+main_failed language before now text names.Memory h = tt
+main_failed language before now text (names.Unknown p) h = tt
+main_failed language before now text (names.Twice p q) h = tt
+main_failed language before now text (names.Const p x) h = tt
+main_failed language before now text (names.ImportCycle p) h = tt
+main_failed language before now text (names.TooMany p) h = tt
+main_failed language before now text (names.Absent n) h = absurd h
+main_failed language before now text (names.Failed n) h = absurd h
+main_failed language before now text (names.Lex n x) h = tt
+main_failed language before now text (names.Syntax n at x) h = tt
 
 -- ## Faults of names as causes
 

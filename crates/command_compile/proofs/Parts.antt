@@ -1,5 +1,6 @@
 -- What compiling two files answers, from what compiling each of them answers over its part of the call.
 use Rattle.std.proofs.Common.{◌≡◌, ◌∙◌, ℕ, ◌≤◌, List, ◌++◌, Option, Some, Result, Ok, Err, IfOk, IfErr, refl, ap, subst, inl, inr}
+use Rattle.idl_grammar.specs.Files.{Idl}
 use Rattle.nd_base.proofs.Rising.{rose_later}
 use Rattle.nd_base.specs.Over.{Rose, IsContent, IsMissing, FilesOver}
 use Rattle.nd_types.specs.declared.interface.Interface.{Interface}
@@ -70,7 +71,7 @@ module _ (f g : FilesOver) (follows : Follows f g) where
   )
   second_cause new (BadIdl file line column why) (text, content, fault) = (
     text,
-    subst (λ (h : Contents). IsContent h new.idl text) follows.held content,
+    subst (λ (h : Contents). IsContent h new.idl.name text) follows.held content,
     subst (λ (h : Contents). IsIdlFault h new.idl text new.acf (BadIdl file line column why)) follows.held fault,
   )
   second_cause new NoOperation cause = absurd cause

@@ -105,23 +105,23 @@ walk_real held (walk.short s rest) = tt
 walk_real held (walk.short_in_load s place name rest due) = tt
 walk_real held (walk.short_after_load s place name rest text due content) = tt
 
-undefined_real : {language : Language} (held : Option (List ℕ → Option (List ℕ))) (main : List Source) (t : Tree) (sources : List Source) (f : NameFault)
+undefined_real : (language : Language) (held : Option (List ℕ → Option (List ℕ))) (main : List Source) (t : Tree) (sources : List Source) (f : NameFault)
     → IsUndefinedFault language held main t sources f → IsReal f
-undefined_real held main t sources (names.Unknown p) u = tt
-undefined_real held main t sources names.Memory u = absurd u
-undefined_real held main t sources (names.Twice p q) u = absurd u
-undefined_real held main t sources (names.Const p x) u = absurd u
-undefined_real held main t sources (names.ImportCycle p) u = absurd u
-undefined_real held main t sources (names.TooMany p) u = absurd u
-undefined_real held main t sources (names.Absent n) u = absurd u
-undefined_real held main t sources (names.Failed n) u = absurd u
-undefined_real held main t sources (names.Lex n f) u = absurd u
-undefined_real held main t sources (names.Syntax n at f) u = absurd u
+undefined_real language held main t sources (names.Unknown p) u = tt
+undefined_real language held main t sources names.Memory u = absurd u
+undefined_real language held main t sources (names.Twice p q) u = absurd u
+undefined_real language held main t sources (names.Const p x) u = absurd u
+undefined_real language held main t sources (names.ImportCycle p) u = absurd u
+undefined_real language held main t sources (names.TooMany p) u = absurd u
+undefined_real language held main t sources (names.Absent n) u = absurd u
+undefined_real language held main t sources (names.Failed n) u = absurd u
+undefined_real language held main t sources (names.Lex n f) u = absurd u
+undefined_real language held main t sources (names.Syntax n at f) u = absurd u
 
-refused_real : {language : Language} (held : Option (List ℕ → Option (List ℕ))) (main : List Source) (t : Tree) (sources : List Source) (f : NameFault) → IsRefused language held main t sources f
+refused_real : (language : Language) (held : Option (List ℕ → Option (List ℕ))) (main : List Source) (t : Tree) (sources : List Source) (f : NameFault) → IsRefused language held main t sources f
     → IsReal f
-refused_real held main t sources f (inl w) = walk_real held w
-refused_real held main t sources f (inr u) = undefined_real held main t sources f u
+refused_real language held main t sources f (inl w) = walk_real held w
+refused_real language held main t sources f (inr u) = undefined_real language held main t sources f u
 
 -- ## What is held
 
@@ -248,7 +248,7 @@ module _ (held : Option (List ℕ → Option (List ℕ))) (idl : Idl) (text : Li
 
     by_rules_first : (o : Option Breach) → first_of_all (resolved_world state) (tree_beside beside) ≡ o → HasResult held idl text acf
     by_rules_first (Some b) e = by_breach b e
-    by_rules_first None e = by_judged e (each_resolved held (main_file idl text) resolved.tree state resolved.names)
+    by_rules_first None e = by_judged e (each_resolved idl.language held (main_file idl text) resolved.tree state resolved.names)
 
   -- by the attribute configuration file
   module _ (state : State) (resolved : AreResolved held idl text state) where
@@ -273,7 +273,7 @@ module _ (held : Option (List ℕ → Option (List ℕ))) (idl : Idl) (text : Li
   by_names_of : (t : Tree) → IsFile idl.language text t → Comes idl.language held (main_file idl text) t → HasResult held idl text acf
   by_names_of t file (ToNames s r) = by_acf_named s (record { tree = t; parsed = file; names = r }) acf refl
   by_names_of t file (ToFault sources f decided is) =
-      by_fault sources f decided (refused_real held (main_file idl text) t sources f is) (inr (t, file, is))
+      by_fault sources f decided (refused_real idl.language held (main_file idl text) t sources f is) (inr (t, file, is))
 
   by_read : IsReadAs idl.language text → HasResult held idl text acf
   by_read (AsFile t file) = by_names_of t file (each_main held idl.language (main_file idl text) t)

@@ -115,7 +115,7 @@ fn compile_text<F: Files>(
     acf: Option<&str>,
     files: &mut F,
 ) -> Result<Interface, Refusal>
-    requires { IsContent (F.seen files.old).held idl.entry.name.now text }
+    requires { IsContent (F.seen files.old).held idl.name.now text }
     ensures asked { AsksAfter (files_over F.seen files.old files.new) (seen_idl idl.entry) (option_map (λ a. a.now) acf.entry) }
     ensures ok { IfOk result
         (MeansAfter (files_over F.seen files.old files.new) (seen_idl idl.entry) text (option_map (λ a. a.now) acf.entry)) }

@@ -12,13 +12,17 @@ pub returns-in_err-tree-clause-absent : goal.returns-in_err-tree-clause-absent
 returns-in_err-tree-clause-absent g c =
     let (name, text, same) = one_source c.args.sources.now c.requires in
     let p = err_from_is_err_and c.from_residual.result c.from_residual.ensures.1 in
-    rw (p.1, p.2) (main_absent (g.F.Files.seen c.args.files.now).absences (g.F.Files.seen c.args.files.now).absences text _ (c.in_err-tree.ensures.fault name text (same c.args.language)))
+    rw (p.1, p.2)
+    (main_absent c.args.language (g.F.Files.seen c.args.files.now).absences (g.F.Files.seen c.args.files.now).absences text _
+    (c.in_err-tree.ensures.fault name text (same c.args.language)))
 
 pub returns-in_err-tree-clause-failed : goal.returns-in_err-tree-clause-failed
 returns-in_err-tree-clause-failed g c =
     let (name, text, same) = one_source c.args.sources.now c.requires in
     let p = err_from_is_err_and c.from_residual.result c.from_residual.ensures.1 in
-    rw (p.1, p.2) (main_failed (g.F.Files.seen c.args.files.now).faults (g.F.Files.seen c.args.files.now).faults text _ (c.in_err-tree.ensures.fault name text (same c.args.language)))
+    rw (p.1, p.2)
+    (main_failed c.args.language (g.F.Files.seen c.args.files.now).faults (g.F.Files.seen c.args.files.now).faults text _
+    (c.in_err-tree.ensures.fault name text (same c.args.language)))
 
 pub returns-clause-scope : goal.returns-clause-scope
 returns-clause-scope g c name text same =

@@ -7,5 +7,5 @@ no_file-requires c = fault_within c.args.language c.in-Ok.tokens c.in-Err-parse.
 
 pub returns-clause-fault : goal.returns-clause-fault
 returns-clause-fault c =
-    unparsed_main c.args.text.now c.in-Ok.tokens c.in-Ok.ensures.text c.in-Ok.ensures.tokens c.in-Err-parse.fault c.in-Err-parse.ensures.answer
+    unparsed_main c.args.language c.args.text.now c.in-Ok.tokens c.in-Ok.ensures.text c.in-Ok.ensures.tokens c.in-Err-parse.fault c.in-Err-parse.ensures.answer
     c.no_file.result c.no_file.ensures

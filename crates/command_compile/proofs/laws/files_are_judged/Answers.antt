@@ -6,7 +6,7 @@ pub returns-clause-resolved : goal.returns-clause-resolved
 returns-clause-resolved c = each_resolved
 
 pub returns-clause-named : goal.returns-clause-named
-returns-clause-named c language = meant_named {language}
+returns-clause-named c language = meant_named {language = language}
 
 pub returns-clause-outcome : goal.returns-clause-outcome
 returns-clause-outcome c = each_outcome
