@@ -1,6 +1,6 @@
 -- Places in lists of arms and of roots.
 -- `xs` is a list, `x` and `y` are items of it, `i` and `k` places, `d` a default.
-use Rattle.std.proofs.Common.{◌≡◌, ◌⊎◌, inl, inr, ℕ, zero, suc, ◌+◌, ◌<◌, ◌≤◌, List, [], ◌∷◌, ◌++◌, length, Option, Some, None, is_some, Bool, true, false, refl, ap, sym, ◌∙◌, arith, subst}
+use Rattle.std.proofs.Common.{◌≡◌, ◌⊎◌, inl, inr, ℕ, zero, suc, ◌+◌, ◌<◌, ◌≤◌, List, [], ◌∷◌, ◌++◌, length, Option, Some, None, is_some, true, false, refl, ap, arith}
 use Rattle.std.specs.List.{slice_get}
 use Rattle.std.specs.Prelude.{option_to_list, sum_by}
 use Rattle.std.proofs.lemmas.List.Sums.{sum_by-cons}
@@ -59,13 +59,13 @@ pub ruleset arms = (arm_before, arm_after, arm_last)
 -- ## The arm that a tag selects
 
 pub labelled_selected : (arms : List Arm) (d : Option Arm) (u k : ℕ) → IsLabelledAt arms u k → IsSelectedAt arms d u k
-labelled_selected arms d u k h = inl h
+labelled_selected labels d u k h = inl h
 
 pub default_selected : (arms : List Arm) (d : Option Arm) (u k : ℕ) → HasNoLabel arms u → is_some d ≡ true → k ≡ length arms → IsSelectedAt arms d u k
-default_selected arms d u k none some last = inr (none, some, last)
+default_selected labels d u k none some last = inr (none, some, last)
 
 pub nothing_selected : (arms : List Arm) (d : Option Arm) (u : ℕ) → HasNoLabel arms u → is_some d ≡ false → HasNoLabel arms u × (d ≡ None)
-nothing_selected arms None u none no = (none, refl)
-nothing_selected arms (Some a) u none no = cc
+nothing_selected labels None u none absent = (none, refl)
+nothing_selected labels (Some a) u none absent = cc
 
 pub ruleset selections = (labelled_selected, default_selected, nothing_selected)
