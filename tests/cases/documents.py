@@ -132,6 +132,18 @@ def of_decoding() -> Case:
     return Case("docs/DECODING.md: the stream", ["decode", "t.idl", "-", "put", "in", "little"], {"t.idl": idl.encode()}, stream, text.encode())
 
 
+def of_windows() -> Iterator[Case]:
+    """The interfaces of docs/WINDOWS.md are of the windows language alone, and the values are of the first."""
+    _, counted, values, *others = blocks("docs/WINDOWS.md")
+    for at, text in enumerate([counted, *others], 1):
+        files = {"t.idl": within(text).encode()}
+        yield Case(f"docs/WINDOWS.md: interface {at}", ["windows", "compile", "t.idl", "-"], files, out=Begins(b"interface t version "))
+        yield Case(f"docs/WINDOWS.md: interface {at} is none of C706", ["compile", "t.idl", "-"], files, notes=Begins(b"idl t.idl:"), status=6)
+    given = bytes.fromhex("0a000c00" "02000000" "06000000" "00000000" "05000000" "5300" "6500" "6500" "6400" "6f00")
+    yield Case("docs/WINDOWS.md: the values", ["windows", "decode", "t.idl", "-", "name", "in", "little"], {"t.idl": within(counted).encode()}, given,
+               values.encode())
+
+
 def of_acf() -> List[str]:
     """The example of an attribute file is the one that the examples have."""
     return [] if (ROOT / "examples" / "letters.acf").read_text() in blocks("docs/ACF.md") else ["the page has another text than examples/letters.acf"]
@@ -245,6 +257,7 @@ CASES = [
     *commands("docs/LISTING.md"),
     Check("docs/ACF.md: the example", of_acf),
     of_decoding(),
+    *of_windows(),
     *of_forms(),
     *of_misfits(),
     *of_texts(),
