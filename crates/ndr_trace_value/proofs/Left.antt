@@ -15,7 +15,7 @@ use Rattle.nd_types.specs.declared.TheConstants.{NESTING_LIMIT}
 use Rattle.nd_types.specs.Layout.{arm_type, arm_types, default_type, nests, parts}
 use Rattle.nd_types.specs.declared.types.Field.{Field}
 use Rattle.nd_types.specs.declared.types.TypeId.{TypeId}
-use Rattle.nd_types.specs.Legal.{IsLegal, fits_pipes, has_none_within, has_pipe_element, is_barred_in_pipes}
+use Rattle.nd_types.specs.Legal.{IsLegal, fits_pipes, has_none_within, has_pipe_element, is_barred_in_pipes, pointee_of, tag_of}
 use Rattle.std.specs.Ordering.{int_eq}
 use Rattle.nd_types.specs.Table.{Table, labelled, or_else, selected, type_at}
 use Rattle.nd_types.proofs.LayoutLaws.{shallow_all}
@@ -152,39 +152,36 @@ module _ (table : Table) (operations : List Operation) (legal : IsLegal table op
       all_left (Known table) (parts (Some d)) (tag_of d)
       (all_left (Known table) (parts (Some d) ++ tag_of d) (pointee_of d) (named_known table operations legal t d e))
 
+  module _ (n t : ℕ) (again : (x : ℕ) → Known table x → has_none_within n is_barred_in_pipes table x ≡ true → 1 ≤ least_within n table x) where
+    members_some : (ms : List Field) → 1 ≤ length ms → AllByRecursion (Known table) (map (λ f. f.of.0) ms)
+        → list_all (has_none_within n is_barred_in_pipes table) (map (λ f. f.of.0) ms) ≡ true → 1 ≤ total (least_within n table) (map (λ f. f.of.0) ms)
+    members_some [] some known fits = absurd (omega (arith, some))
+    members_some (m ∷ ms) some known fits =
+        let a =
+        again m.of.0 known.0
+        (first_true (has_none_within n is_barred_in_pipes table m.of.0) (list_all (has_none_within n is_barred_in_pipes table) (map (λ f. f.of.0) ms)) fits) in
+        omega (arith, a)
+
+    by_type : (x : TypeDef) → type_at table t ≡ Some x → (not (is_barred_in_pipes (Some x)) && list_all (has_none_within n is_barred_in_pipes table) (parts (Some x))) ≡ true
+        → AllByRecursion (Known table) (parts (Some x)) → 1 ≤ least_by (least_within n table) (Some x)
+    by_type (def.Prim p) is h known = omega arith
+    by_type (def.Enum values) is h known = omega arith
+    by_type (def.Union tag enc arms default) is h known = omega arith
+    by_type (def.Struct ms) is h known = members_some ms (some_members table operations legal t ms is) known h
+    by_type (def.Array x (Some b) false) is h known = again x.0 known.0 (first_true (has_none_within n is_barred_in_pipes table x.0) true h)
+    by_type (def.Array x (Some b) true) is h known = cc
+    by_type (def.Array x None v) is h known = cc
+    by_type (def.Text x b) is h known = cc
+    by_type (def.Pointer k to) is h known = cc
+    by_type def.Context is h known = cc
+    by_type (def.Pipe x) is h known = cc
+
   -- a value that may stand in a pipe's element has an item
   some_within : (n t : ℕ) → Known table t → has_none_within n is_barred_in_pipes table t ≡ true → 1 ≤ least_within n table t
   some_within zero t known h = cc
   some_within (suc n) t (d, e) h =
       subst (λ x. 1 ≤ least_by (least_within n table) x) (sym e)
-      (go d e (subst (λ x. (not (is_barred_in_pipes x) && list_all (has_none_within n is_barred_in_pipes table) (parts x)) ≡ true) e h) (known_parts t d e))
-    where
-      first : (x : ℕ) → AllByRecursion (Known table) (x ∷ []) → list_all (has_none_within n is_barred_in_pipes table) (x ∷ []) ≡ true → 1 ≤ least_within n table x
-      first x known fits = some_within n x known.0 (first_true (has_none_within n is_barred_in_pipes table x) true fits)
-
-      members_some : (ms : List Field) → 1 ≤ length ms → AllByRecursion (Known table) (map (λ f. f.of.0) ms)
-          → list_all (has_none_within n is_barred_in_pipes table) (map (λ f. f.of.0) ms) ≡ true → 1 ≤ total (least_within n table) (map (λ f. f.of.0) ms)
-      members_some [] some known fits = absurd (omega (arith, some))
-      members_some (m ∷ ms) some known fits =
-          let a =
-          some_within n m.of.0 known.0
-          (first_true (has_none_within n is_barred_in_pipes table m.of.0) (list_all (has_none_within n is_barred_in_pipes table) (map (λ f. f.of.0) ms)) fits) in
-          omega (arith, a)
-
-      go : (x : TypeDef) → type_at table t ≡ Some x
-          → (not (is_barred_in_pipes (Some x)) && list_all (has_none_within n is_barred_in_pipes table) (parts (Some x))) ≡ true → AllByRecursion (Known table) (parts (Some x))
-          → 1 ≤ least_by (least_within n table) (Some x)
-      go (def.Prim p) is h known = omega arith
-      go (def.Enum values) is h known = omega arith
-      go (def.Union tag enc arms default) is h known = omega arith
-      go (def.Struct ms) is h known = members_some ms (some_members table operations legal t ms is) known h
-      go (def.Array x (Some b) false) is h known = first x.0 known h
-      go (def.Array x (Some b) true) is h known = cc
-      go (def.Array x None v) is h known = cc
-      go (def.Text x b) is h known = cc
-      go (def.Pointer k to) is h known = cc
-      go def.Context is h known = cc
-      go (def.Pipe x) is h known = cc
+      (by_type n t (some_within n) d e (subst (λ x. (not (is_barred_in_pipes x) && list_all (has_none_within n is_barred_in_pipes table) (parts x)) ≡ true) e h) (known_parts t d e))
 
   pub element_some : (t : ℕ) (x : ℕ) → pipe_element (type_at table t) ≡ Some x → 1 ≤ least_items table x
   unfolding fits_pipes least_items
@@ -219,9 +216,9 @@ module _ (table : Table) (t : ℕ) (p p1 : Progress) (r : Result Shape Halt) whe
 
   -- a type that may have none
   pub none_taken : (d : Option TypeDef) → type_at table t ≡ d → ((least : ℕ → ℕ) → least_by least d ≡ 0) → IfOk r (λ _. p.next ≤ p1.next) → Taken
-  none_taken d is zero later =
+  none_taken d is nothing later =
       IfOk-weaker r (λ _. p.next ≤ p1.next) (λ s. HaveTaken table t (flat_shape s) p p1)
-      (λ s l least ks e. (let k : least_by least (type_at table t) ≡ least_by least d = ap (least_by least) is in let h = zero least in omega (arith, k, h, l))) later
+      (λ s l least ks e. (let k : least_by least (type_at table t) ≡ least_by least d = ap (least_by least) is in let h = nothing least in omega (arith, k, h, l))) later
 
   pub struct_taken : (members : List Field) → type_at table t ≡ Some (def.Struct members) → IfOk r (λ s. flat_shape s ≡ (tree.Rec, 0)) → IfOk r (λ _. p.next ≤ p1.next) → Taken
   struct_taken members is shape later = by r shape later

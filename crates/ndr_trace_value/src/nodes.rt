@@ -48,7 +48,7 @@ pub fn walk_level<'a>(
     from: &Option<PointerSpot>,
     first: Level<'a>,
 ) -> Result<(), Halt>
-    requires some { 0 < length (level_types first.entry) }
+    requires some { 0 < length (level_types first) }
     ensures goes { (k : Known) → IsGround k ground.now → IsFrom k home from.now → (n : ℕ) (left : Trees)
         → AreThere k home max (level_types first.entry) (level_paths (name_text name.entry) first.entry) (level_places first.entry) n left
         → (rest : List Entry) → IsTracing k walker.old.progress (values_due k home (level_types first.entry) n left ++ rest)
@@ -84,7 +84,7 @@ fn take_node<'a>(
     from: &Option<PointerSpot>,
     levels: Levels<'a>,
 ) -> Result<Option<Levels<'a>>, Halt>
-    requires some { 0 < length (level_types levels.entry.top) }
+    requires some { 0 < length (level_types levels.top) }
     ensures goes { (k : Known) → IsGround k ground.now → IsFrom k home from.now → (n : ℕ) (left : Trees)
         → AreThere k home max (types_from levels.entry.top (reverse levels.entry.below.items))
         (paths_from (name_text name.entry) levels.entry.top (reverse levels.entry.below.items))
