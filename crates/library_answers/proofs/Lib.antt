@@ -7,4 +7,5 @@ pub mod Logs
 pub mod Buffers
 pub mod Copies
 pub mod Named
+pub mod Places
 pub mod Listings

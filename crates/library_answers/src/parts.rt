@@ -1,6 +1,6 @@
 // Roots, members, arms and enumerators by their places.
 ghost use Rattle.std.specs.Prelude.{◌≡◌, ◌≤◌, ◌<◌, length, take, drop, true, false, Some, None, IsSomeAnd};
-ghost use Rattle.nd_types.specs.Roots.{named_roots};
+ghost use Rattle.nd_types.specs.Roots.{named_roots, root_value};
 ghost use Rattle.nd_types.specs.Table.{type_at};
 ghost use Rattle.library_types.specs.Parts.{member_of, enumerator_of, arm_of, is_default_of, arm_described, IsSelection};
 ghost use Rattle.library_types.specs.Rooted.{root_described};
@@ -18,7 +18,7 @@ use library_types::{
 use nd_types::{Arm, Field, Operation, RootDef};
 
 /// How many roots a side of an operation has. Takes no memory.
-#[tactic(auto, using(crate::proofs::Numbered::no_values, crate::proofs::Places::roots_counted))]
+#[tactic(auto, using(crate::proofs::Numbered::no_values))]
 pub fn count_roots(compiled: &Compiled, operation: u32, side: u32, count: &mut usize) -> u32
     ensures known { result ≤ ARGUMENT }
     ensures not_empty { result ≡ EMPTY → ⊥ }
@@ -38,7 +38,7 @@ pub fn count_roots(compiled: &Compiled, operation: u32, side: u32, count: &mut u
 }
 
 /// What a root of a side of an operation is, by its place, and its name. Takes no memory.
-#[tactic(auto, using(crate::proofs::Numbered::no_values, crate::proofs::Places::roots_placed))]
+#[tactic(auto, using(crate::proofs::Places::roots_placed))]
 pub fn write_root(
     compiled: &Compiled,
     operation: u32,
@@ -51,7 +51,8 @@ pub fn write_root(
     ensures known { result ≤ SHORT }
     ensures not_empty { result ≡ EMPTY → ⊥ }
     ensures not_memory { result ≡ MEMORY → ⊥ }
-    ensures written { result ≡ OK → OfRoot compiled.now operation side at (λ o r. (about.new ≡ root_described o r) × (take len.new out.new ≡ r.name)) }
+    ensures written { result ≡ OK → OfRoot compiled.now operation side at
+        (λ o r. (about.new ≡ root_described o r) × (take len.new out.new ≡ r.name)) }
     ensures rest { result ≡ OK → drop len.new out.new ≡ drop len.new out.old }
     ensures room { result ≡ OK → len.new ≤ length out.old }
     ensures short { result ≡ SHORT → OfRoot compiled.now operation side at (λ _ r. (len.new ≡ length r.name) × (length out.old < len.new)) }
@@ -227,6 +228,7 @@ fn name_of(arm: &Arm) -> &[u8]
 }
 
 /// The place of the arm that a tag selects. Takes no memory.
+#[tactic(auto, using(crate::proofs::Places::selection_is))]
 pub fn find_arm(compiled: &Compiled, of: u32, tag: u64, arm: &mut usize) -> u32
     ensures known { result ≤ ABSENT }
     ensures not_empty { result ≡ EMPTY → ⊥ }

@@ -15,6 +15,7 @@ use library_types::{
 use nd_types::{Fields, TypeDef, TypeId, Types};
 
 /// What a type is, by its number. Takes no memory.
+#[tactic(auto, using(crate::proofs::Places::typed))]
 pub fn set_type(compiled: &Compiled, of: u32, about: &mut TypeDescription) -> u32
     ensures known { result ≤ ARGUMENT }
     ensures not_empty { result ≡ EMPTY → ⊥ }

@@ -9,8 +9,10 @@ use Rattle.command_refusals.specs.declared.refusal.IdlReason.TheVariants as idl_
 use Rattle.command_refusals.specs.declared.refusal.OctetsFault.{OctetsFault}
 use Rattle.command_refusals.specs.declared.refusal.OctetsFault.TheVariants as octets
 use Rattle.command_refusals.specs.declared.refusal.Refusal.{Refusal}
-use Rattle.command_refusals.specs.declared.refusal.Refusal.TheVariants.{BadIdl, BadOctets, BadText, BadValue, BadPdu, BadLabel, ShortLabel, NotCompatible}
-use Rattle.command_refusals.specs.Lines.{lex_kind_name, const_fault_name, reason_name, text_reason_name, misfit_name, pdu_reason_name, label_fault_name}
+use Rattle.command_refusals.specs.declared.refusal.Refusal.TheVariants.{BadIdl, BadOctets, BadText, BadValue}
+use Rattle.command_refusals.specs.declared.refusal.Refusal.TheVariants.{BadPdu, BadLabel, ShortLabel, NotCompatible}
+use Rattle.command_refusals.specs.Lines.{lex_kind_name, const_fault_name, reason_name, text_reason_name, misfit_name, pdu_reason_name}
+use Rattle.command_refusals.specs.Lines.{label_fault_name}
 
 abbrev pub idl_word : IdlReason → List ℕ
 idl_word (idl_reason.Lexical kind) = lex_kind_name kind

@@ -12,11 +12,11 @@ use Rattle.library_nodes.specs.declared.nodes.NodeList.{NodeList}
 use Rattle.library_nodes.specs.declared.nodes.Nodes.{Nodes}
 use Rattle.library_nodes.specs.Low.{low_flat, low_flats}
 use Rattle.library_nodes.specs.Said.{flats_said, SaysFirst}
-use Rattle.library_nodes.specs.Gathered.{AreGathered}
+use Rattle.library_nodes.specs.Gathered.{AreGathered, AreThere}
 use Rattle.library_nodes.specs.Listed.{ArePaired, Begins, AreSaid, AreLaid, IsListOf, home_trees}
 use Rattle.library_nodes.specs.Laying.{Grows, Adds, BeginsEver, IsFront, AddsHomes}
 use Rattle.library_nodes.proofs.Adding.{said_append, grows_none, grows_then}
-use Rattle.library_nodes.proofs.Gathered.{gathered_append, after_whole, values_whole}
+use Rattle.library_nodes.proofs.Gathered.{gathered_append, after_whole, values_whole, there_append, there_later, longer_list}
 
 -- ## Pairs
 
@@ -167,8 +167,14 @@ gathered_both : (vs : Trees) (b : NodeList) (ms ns : List Node) → ((zs os : Li
     → AreGathered ms → AreGathered ns → AreGathered (ms ++ ns)
 gathered_both vs b ms ns say g h = gathered_append ms ns g h (after_whole ms ns (values_whole vs _ _ ms (say [] []) g) g)
 
+there_both : (b c : NodeList) (ms ns : List Node) → Grows b c → AreThere (length b.numbers.items) ms → AreThere (length c.numbers.items) ns
+    → AreThere (length c.numbers.items) (ms ++ ns)
+there_both b c ms ns g h k =
+    there_append (length c.numbers.items) ms ns
+    (there_later (length b.numbers.items) (length c.numbers.items) ms (longer_list b.numbers.items c.numbers.items g.numbers g.numbers_are) h) k
+
 pub homes_none : (a : NodeList) (ss : List ℕ) → AddsHomes [] a ss a ss
-homes_none a ss = record { grows = grows_none a; new = []; starts = sym (append-nil ss); begin = tt; fronts = tt; say = λ zs os. refl; gathered = tt }
+homes_none a ss = record { grows = grows_none a; new = []; starts = sym (append-nil ss); begin = tt; fronts = tt; say = λ zs os. refl; gathered = tt; there = tt }
 
 -- one value more
 pub homes_more : (ts us : List Tree) (t : Tree) (a b c : NodeList) (ss rs qs : List ℕ) → us ≡ ts ++ t ∷ [] → AddsHomes ts a ss b rs → qs ≡ rs ++ length b.nodes.items ∷ []
@@ -190,6 +196,7 @@ homes_more ts us t a b c ss rs qs eu h eq ad = record {
       (said_both (c.numbers.items ++ zs) (c.octets ++ os) h.grows.nodes ad.grows.nodes ts (t ∷ [])
       (said_later b c ad.grows h.grows.nodes (low_flats (flat (trees ts))) h.say zs os) (ad.say zs os));
   gathered = gathered_both (trees ts) b h.grows.nodes ad.grows.nodes h.say h.gathered ad.gathered;
+  there = there_both b c h.grows.nodes ad.grows.nodes ad.grows h.there ad.there;
 }
 
 -- ## All values of a graph
@@ -233,6 +240,9 @@ listed g n a b ss rs qs empty e h k es er =
           (said_later b n.list k.grows h.grows.nodes (low_flats (flat (trees g.roots))) h.say zs os) (k.say zs os)));
       gathered =
           subst (λ (ns : List Node). AreGathered ns) (sym added) (gathered_both (trees g.roots) b h.grows.nodes k.grows.nodes h.say h.gathered k.gathered);
+      there =
+          subst (λ (ns : List Node). AreThere (length n.list.numbers.items) ns) (sym added)
+          (there_both b n.list h.grows.nodes k.grows.nodes k.grows h.there k.there);
     }
 
 -- ## One root or cell more

@@ -15,9 +15,9 @@ use Rattle.library_nodes.specs.declared.nodes.NodeList.{NodeList}
 use Rattle.library_types.specs.Low.{low}
 use Rattle.library_nodes.specs.Low.{low_flat, low_flats}
 use Rattle.library_nodes.specs.Said.{number_flat, number_flats, node_flats, flats_said}
-use Rattle.library_nodes.specs.Gathered.{elements_of, is_number, IsGathered, AreGathered}
+use Rattle.library_nodes.specs.Gathered.{elements_of, is_number, IsGathered, AreGathered, IsThere, AreThere}
 use Rattle.library_nodes.specs.Laying.{Grows, Adds, AddsOpen, AreLast, EndsWhole, lacking, one_more, more_numbers}
-use Rattle.library_nodes.proofs.Gathered.{LastGathered, gathered_append, after_any, after_whole, last_changed, ends_with, none_lacking, full_whole}
+use Rattle.library_nodes.proofs.Gathered.{LastGathered, gathered_append, after_any, after_whole, last_changed, ends_with, none_lacking, there_append, last_there, last_added, longer_list}
 
 -- ## What nodes say
 
@@ -64,7 +64,7 @@ grown a b c ns zs os g en ez eo =
 -- ## Nothing yet, and all
 
 pub open_none : (a : NodeList) → AddsOpen [] a a None
-open_none a = record { grows = grows_none a; last = tt; say = λ zs os. refl; gathered = tt; settled = tt }
+open_none a = record { grows = grows_none a; last = tt; say = λ zs os. refl; gathered = tt; there = tt; settled = tt }
 
 -- the node that was open is added
 abbrev pub closed : (fs : List Flat) (a b c : NodeList) (o : Option Node) → c.nodes.items ≡ b.nodes.items ++ option_to_list o → c.numbers.items ≡ b.numbers.items → c.octets ≡ b.octets
@@ -73,6 +73,7 @@ closed fs a b c o en ez eo h = record {
   grows = grown a b c (option_to_list o) [] [] h.grows en (ez ∙ sym (append-nil b.numbers.items)) (eo ∙ sym (append-nil b.octets));
   say = λ zs os. ap₂ (λ p q. flats_said (p ++ zs) (q ++ os) (h.grows.nodes ++ option_to_list o)) ez eo ∙ h.say zs os;
   gathered = h.gathered;
+  there = subst (λ (xs : List ℕ). AreThere (length xs) (h.grows.nodes ++ option_to_list o)) (sym ez) h.there;
 }
 
 -- ## One node more
@@ -90,6 +91,9 @@ plain_more fs f n a b c more en ez eo says plain h after =
       gathered =
           subst (λ (ms : List Node). AreGathered ms) (sym (append-nil (ns ++ n ∷ [])))
           (gathered_append ns (n ∷ []) h.gathered (none.1, tt) after);
+      there =
+          subst (λ (ms : List Node). AreThere (length c.numbers.items) ms) (sym (append-nil (ns ++ n ∷ [])))
+          (there_append (length c.numbers.items) ns (n ∷ []) (subst (λ (xs : List ℕ). AreThere (length xs) ns) (sym ez) h.there) (none.2 (length c.numbers.items), tt));
       settled = ends_with ns n none.0;
       say = λ zs os.
           ap (λ xs. flats_said (c.numbers.items ++ zs) (c.octets ++ os) xs) (append-nil (ns ++ n ∷ []))
@@ -102,11 +106,13 @@ plain_more fs f n a b c more en ez eo says plain h after =
 
 -- a node by itself
 pub alone : (f : Flat) (n : Node) (a c : NodeList) (more : List ℕ) → c.nodes.items ≡ a.nodes.items ++ n ∷ [] → c.numbers.items ≡ a.numbers.items
-    → c.octets ≡ a.octets ++ more → ((zs os : List ℕ) → node_flats zs (c.octets ++ os) n ≡ low_flat f ∷ []) → IsGathered (elements_of n) [] → Adds (f ∷ []) a c
-alone f n a c more en ez eo says gathered = record {
+    → c.octets ≡ a.octets ++ more → ((zs os : List ℕ) → node_flats zs (c.octets ++ os) n ≡ low_flat f ∷ []) → IsGathered (elements_of n) []
+    → ((many : ℕ) → IsThere many (elements_of n)) → Adds (f ∷ []) a c
+alone f n a c more en ez eo says gathered there = record {
   grows = grown a a c (n ∷ []) [] more (grows_none a) en (ez ∙ sym (append-nil a.numbers.items)) eo;
   say = λ zs os. append-nil (node_flats (c.numbers.items ++ zs) (c.octets ++ os) n) ∙ says (c.numbers.items ++ zs) os;
   gathered = (gathered, tt);
+  there = (there (length c.numbers.items), tt);
 }
 
 -- an array or a pipe is open, none of whose elements is a number yet
@@ -116,6 +122,7 @@ opened fs f n a b last says other gathered h = record {
   grows = h.grows;
   last = last;
   gathered = gathered_append h.grows.nodes (n ∷ []) h.gathered (gathered, tt) (after_any h.grows.nodes n [] other h.gathered);
+  there = there_append (length b.numbers.items) h.grows.nodes (n ∷ []) h.there (last_there b.numbers.items n last, tt);
   settled = tt;
   say = λ zs os.
       let p = b.numbers.items ++ zs in
@@ -231,6 +238,9 @@ number_more fs z u (Some m) n a b c is same en ez eo h =
       last = subst (λ ys. AreLast ys (Some n)) (sym ez) s.last;
       gathered =
           subst (λ (ms : List Node). AreGathered (ms ++ n ∷ [])) (sym (append-nil ns)) (last_changed ns m n s.other s.gathered h.gathered);
+      there =
+          subst (λ (ms : List Node). AreThere (length c.numbers.items) (ms ++ n ∷ [])) (sym (append-nil ns))
+          (last_added xs c.numbers.items ns m n (longer_list xs c.numbers.items (u ∷ []) ez) (subst (λ ys. AreLast ys (Some n)) (sym ez) s.last) h.there);
       settled = tt;
       say = λ zs os.
           let q = c.octets ++ os in

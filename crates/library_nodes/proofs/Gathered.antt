@@ -1,6 +1,6 @@
 -- Elements that are numbers stay among the numbers while nodes are added.
 -- `ms` and `ns` are nodes, `m` and `n` are nodes, `e` elements, `o` elements or none; `fs`, `gs` and `hs` are nodes of trees, `vs` trees.
-use Rattle.std.proofs.Common.{◌≡◌, ◌≤◌, ◌<◌, ℕ, zero, suc, ◌+◌, ◌-◌, Bool, true, false, List, [], ◌∷◌, ◌++◌, map, length, take, drop, Option, Some, None}
+use Rattle.std.proofs.Common.{◌≡◌, ◌≤◌, ◌<◌, ℕ, zero, suc, ◌+◌, ◌-◌, ℤ, Bool, true, false, List, [], ◌∷◌, ◌++◌, map, length, take, drop, Option, Some, None}
 use Rattle.std.specs.Prelude.{option_to_list, if◌then◌else◌}
 use Rattle.std.proofs.Common.{option_map, nat_lt, refl, ap, sym, ◌∙◌, arith, append_assoc, subst}
 use Rattle.std.proofs.lemmas.Bool.{ltb-false}
@@ -18,8 +18,8 @@ use Rattle.library_nodes.specs.declared.node.Node.{Node}
 use Rattle.library_nodes.specs.declared.node.Node.TheVariants as item
 use Rattle.library_nodes.specs.Low.{low_flat, low_flats}
 use Rattle.library_nodes.specs.Said.{number_flat, number_flats, node_flats, flats_said}
-use Rattle.library_nodes.specs.Gathered.{elements_of, is_number, begins_with_number, IsGathered, AreGathered}
-use Rattle.library_nodes.specs.Laying.{lacking, EndsWhole, IsSettled, one_more, more_numbers}
+use Rattle.library_nodes.specs.Gathered.{elements_of, is_number, begins_with_number, IsGathered, AreGathered, IsThere, AreThere}
+use Rattle.library_nodes.specs.Laying.{AreLast, lacking, EndsWhole, IsSettled, one_more, more_numbers}
 
 -- ## Nodes after nodes
 
@@ -64,6 +64,47 @@ after_any [] n ns other g = tt
 after_any (m ∷ []) n ns other g = before_other (elements_of m) n ns other g.0
 after_any (m ∷ k ∷ ms) n ns other g = after_any (k ∷ ms) n ns other g.1
 
+-- ## Numbers that are there
+
+pub there_append : (many : ℕ) (ms ns : List Node) → AreThere many ms → AreThere many ns → AreThere many (ms ++ ns)
+there_append many [] ns g h = h
+there_append many (m ∷ ms) ns g h = (g.0, there_append many ms ns g.1 h)
+
+one_later : (many more : ℕ) (o : Option Elements) → many ≤ more → IsThere many o → IsThere more o
+one_later many more None less g = tt
+one_later many more (Some e) less g = let h : e.from + e.numbers ≤ many = g in omega (arith, less, h)
+
+-- they are there where more numbers are
+pub there_later : (many more : ℕ) (ns : List Node) → many ≤ more → AreThere many ns → AreThere more ns
+there_later many more [] less g = tt
+there_later many more (n ∷ ns) less g = (one_later many more (elements_of n) less g.0, there_later many more ns less g.1)
+
+pub there_front : (many : ℕ) (ms ns : List Node) → AreThere many (ms ++ ns) → AreThere many ms
+there_front many [] ns g = tt
+there_front many (m ∷ ms) ns g = (g.0, there_front many ms ns g.1)
+
+-- the last numbers of a list are there
+pub last_there : (xs : List ℕ) (n : Node) → AreLast xs (Some n) → IsThere (length xs) (elements_of n)
+last_there xs (item.Number u) l = tt
+last_there xs (item.Struct k) l = tt
+last_there xs (item.Array max offset e) l = let h : e.from + e.numbers ≡ length xs = l in omega (arith, h)
+last_there xs (item.Text max from len) l = tt
+last_there xs (item.Union tag armed) l = tt
+last_there xs (item.Pointer cell) l = tt
+last_there xs (item.Context attributes id) l = tt
+last_there xs (item.Pipe e) l = let h : e.from + e.numbers ≡ length xs = l in omega (arith, h)
+
+-- the last node in the place of another, after numbers were added that are its own
+pub last_added : (xs ys : List ℕ) (ms : List Node) (m n : Node) → length xs ≤ length ys → AreLast ys (Some n) → AreThere (length xs) (ms ++ m ∷ []) → AreThere (length ys) (ms ++ n ∷ [])
+last_added xs ys ms m n more l g =
+    there_append (length ys) ms (n ∷ []) (there_later (length xs) (length ys) ms more (there_front (length xs) ms (m ∷ []) g)) (last_there ys n l, tt)
+
+pub longer_list : (xs ys zs : List ℕ) → ys ≡ xs ++ zs → length xs ≤ length ys
+longer_list xs ys zs is = let e : length ys ≡ length (xs ++ zs) = ap length is in omega (arith, e, length_both xs zs) where
+  length_both : (us vs : List ℕ) → length (us ++ vs) ≡ length us + length vs
+  length_both [] vs = omega arith
+  length_both (u ∷ us) vs = let h : length (us ++ vs) ≡ length us + length vs = length_both us vs in omega (arith, h)
+
 -- the last node in the place of another
 pub last_changed : (ms : List Node) (m n : Node) → is_number m ≡ is_number n → IsGathered (elements_of n) [] → AreGathered (ms ++ m ∷ []) → AreGathered (ms ++ n ∷ [])
 last_changed [] m n same g h = (g, tt)
@@ -82,9 +123,12 @@ nothing : (o : Option Elements) (f : Elements → Node) → option_map f o ≡ N
 nothing None f is = refl
 nothing (Some e) f is = cc
 
+abbrev with_one : Elements → Elements
+with_one e = record { count = e.count; numbers = e.numbers + 1; from = e.from }
+
 full_elements : (e : Elements) → more_numbers e ≡ None → e.count - e.numbers ≡ 0
 full_elements e is = by_test (nat_lt e.numbers e.count) refl is where
-  by_test : (b : Bool) → nat_lt e.numbers e.count ≡ b → (if b then Some (record { count = e.count; numbers = e.numbers + 1; from = e.from }) else None) ≡ None → e.count - e.numbers ≡ 0
+  by_test : (b : Bool) → nat_lt e.numbers e.count ≡ b → (if b then Some (with_one e) else None) ≡ None → e.count - e.numbers ≡ 0
   by_test true less is = cc
   by_test false less is = let l : e.count ≤ e.numbers = ltb-false e.numbers e.count less in omega (arith, l)
 
@@ -138,14 +182,14 @@ pub plain_seen : (s : Seen) (n : Node) → ((z : ℤ) → s ≡ seen.Num z → �
     → node_flats [] os n ≡ low_flat (flat_seen s) ∷ [] → (is_number n ≡ false) × (elements_of n ≡ None)
 plain_seen s n not_num not_arr not_pipe os says = other_node [] os n (ap kind_of says ∙ other_seen s not_num not_arr not_pipe)
 
-pub none_lacking : (n : Node) → elements_of n ≡ None → (lacking (Some n) ≡ 0) × IsGathered (elements_of n) []
-none_lacking (item.Number u) is = (refl, tt)
-none_lacking (item.Struct c) is = (refl, tt)
+pub none_lacking : (n : Node) → elements_of n ≡ None → (lacking (Some n) ≡ 0) × IsGathered (elements_of n) [] × ((many : ℕ) → IsThere many (elements_of n))
+none_lacking (item.Number u) is = (refl, tt, λ many. tt)
+none_lacking (item.Struct c) is = (refl, tt, λ many. tt)
 none_lacking (item.Array max offset e) is = cc
-none_lacking (item.Text max from len) is = (refl, tt)
-none_lacking (item.Union tag armed) is = (refl, tt)
-none_lacking (item.Pointer cell) is = (refl, tt)
-none_lacking (item.Context attributes id) is = (refl, tt)
+none_lacking (item.Text max from len) is = (refl, tt, λ many. tt)
+none_lacking (item.Union tag armed) is = (refl, tt, λ many. tt)
+none_lacking (item.Pointer cell) is = (refl, tt, λ many. tt)
+none_lacking (item.Context attributes id) is = (refl, tt, λ many. tt)
 none_lacking (item.Pipe e) is = cc
 
 -- ## The nodes of whole trees
@@ -162,7 +206,7 @@ one_each (more (node l ks) vs) =
     let e : length (flat ks ++ flat vs) ≡ length (flat ks) + length (flat vs) = length_both (flat ks) (flat vs) in
     omega (arith, h, e) where
       length_both : (fs gs : List Flat) → length (fs ++ gs) ≡ length fs + length gs
-      length_both [] gs = refl
+      length_both [] gs = omega arith
       length_both (f ∷ fs) gs = let h : length (fs ++ gs) ≡ length fs + length gs = length_both fs gs in omega (arith, h)
 
 abbrev second_or : List Flat → ℕ

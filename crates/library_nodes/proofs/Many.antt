@@ -18,10 +18,10 @@ use Rattle.library_nodes.specs.declared.nodes.NodeList.{NodeList}
 use Rattle.library_types.specs.Low.{low}
 use Rattle.library_nodes.specs.Low.{low_flat, low_flats}
 use Rattle.library_nodes.specs.Said.{number_flat, number_flats, node_flats, flats_said}
-use Rattle.library_nodes.specs.Gathered.{elements_of, is_number, IsGathered, AreGathered}
+use Rattle.library_nodes.specs.Gathered.{elements_of, is_number, IsGathered, AreGathered, AreThere}
 use Rattle.library_nodes.specs.Laying.{AddsOpen, AreLast, lacking, longer, with_more}
 use Rattle.library_nodes.proofs.Adding.{said_more, grown}
-use Rattle.library_nodes.proofs.Gathered.{last_changed}
+use Rattle.library_nodes.proofs.Gathered.{last_changed, last_added, longer_list}
 
 -- ## Numbers
 
@@ -105,6 +105,9 @@ module _ (fs : List Flat) (zs : List ℤ) (us : List ℕ) (a b c : NodeList) (sa
         grows = grown a b c [] us [] h.grows (en ∙ sym (append-nil b.nodes.items)) ez (eo ∙ sym (append-nil b.octets));
         last = subst (λ ys. AreLast ys (Some n)) (sym ez) s.last;
         gathered = subst (λ (ms : List Node). AreGathered (ms ++ n ∷ [])) (sym (append-nil ns)) (last_changed ns m n s.other s.gathered h.gathered);
+        there =
+            subst (λ (ms : List Node). AreThere (length c.numbers.items) (ms ++ n ∷ [])) (sym (append-nil ns))
+            (last_added xs c.numbers.items ns m n (longer_list xs c.numbers.items us ez) (subst (λ ys. AreLast ys (Some n)) (sym ez) s.last) h.there);
         settled = tt;
         say = λ ys os.
             let q = c.octets ++ os in

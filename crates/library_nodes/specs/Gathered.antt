@@ -1,6 +1,6 @@
 -- Where the elements of arrays and pipes are: those that are numbers are among the numbers of a list, and are no nodes.
--- `e` are elements, `n` is a node, `ns` are nodes.
-use Rattle.std.specs.Prelude.{◌≡◌, ◌≤◌, ◌<◌, Bool, true, false, List, [], ◌∷◌, Option, Some, None}
+-- `e` are elements, `n` is a node, `ns` are nodes, `many` is how many numbers the list has.
+use Rattle.std.specs.Prelude.{◌≡◌, ◌≤◌, ◌<◌, ℕ, ◌+◌, Bool, true, false, List, [], ◌∷◌, Option, Some, None}
 use Rattle.library_nodes.specs.declared.node.Elements.{Elements}
 use Rattle.library_nodes.specs.declared.node.Node.{Node}
 use Rattle.library_nodes.specs.declared.node.Node.TheVariants.{Number, Array, Pipe}
@@ -28,3 +28,12 @@ IsGathered (Some e) ns = (e.numbers ≤ e.count) × (e.numbers < e.count → beg
 abbrev pub AreGathered : List Node → Type 0
 AreGathered [] = Unit {0}
 AreGathered (n ∷ ns) = IsGathered (elements_of n) ns × AreGathered ns
+
+-- those that are numbers are in the list of numbers
+abbrev pub IsThere : ℕ → Option Elements → Type 0
+IsThere many None = Unit {0}
+IsThere many (Some e) = e.from + e.numbers ≤ many
+
+abbrev pub AreThere : ℕ → List Node → Type 0
+AreThere many [] = Unit {0}
+AreThere many (n ∷ ns) = IsThere many (elements_of n) × AreThere many ns

@@ -8,7 +8,7 @@ use Rattle.library_nodes.specs.declared.node.Node.TheVariants.{Array, Pipe}
 use Rattle.library_nodes.specs.declared.nodes.NodeList.{NodeList}
 use Rattle.library_nodes.specs.Low.{low_flats}
 use Rattle.library_nodes.specs.Said.{flats_said, SaysFirst}
-use Rattle.library_nodes.specs.Gathered.{AreGathered}
+use Rattle.library_nodes.specs.Gathered.{AreGathered, AreThere}
 use Rattle.library_nodes.specs.Listed.{ArePaired, AreLaid}
 
 -- Nothing that was there changes.
@@ -25,6 +25,7 @@ pub record Adds (fs : List Flat) (a b : NodeList) : Type 0 where
   pub grows : Grows a b
   pub say : (zs os : List ℕ) → flats_said (b.numbers.items ++ zs) (b.octets ++ os) grows.nodes ≡ low_flats fs
   pub gathered : AreGathered grows.nodes
+  pub there : AreThere (length b.numbers.items) grows.nodes
 
 -- ## Arrays and pipes that are open
 
@@ -76,6 +77,7 @@ pub record AddsOpen (fs : List Flat) (a b : NodeList) (open_node : Option Node) 
   pub last : AreLast b.numbers.items open_node
   pub say : (zs os : List ℕ) → flats_said (b.numbers.items ++ zs) (b.octets ++ os) (grows.nodes ++ option_to_list open_node) ≡ low_flats fs
   pub gathered : AreGathered (grows.nodes ++ option_to_list open_node)
+  pub there : AreThere (length b.numbers.items) (grows.nodes ++ option_to_list open_node)
   pub settled : IsSettled open_node grows.nodes
 
 -- ## Values
@@ -101,3 +103,4 @@ pub record AddsHomes (ts : List Tree) (a : NodeList) (ss : List ℕ) (b : NodeLi
   pub fronts : AreLaid (IsFront a b) [] new ts
   pub say : (zs os : List ℕ) → flats_said (b.numbers.items ++ zs) (b.octets ++ os) grows.nodes ≡ low_flats (flat (trees ts))
   pub gathered : AreGathered grows.nodes
+  pub there : AreThere (length b.numbers.items) grows.nodes

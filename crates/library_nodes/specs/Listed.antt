@@ -9,7 +9,7 @@ use Rattle.library_nodes.specs.declared.nodes.NodeList.{NodeList}
 use Rattle.library_nodes.specs.declared.nodes.Nodes.{Nodes}
 use Rattle.library_nodes.specs.Low.{low_flats}
 use Rattle.library_nodes.specs.Said.{flats_said, SaysFirst}
-use Rattle.library_nodes.specs.Gathered.{AreGathered}
+use Rattle.library_nodes.specs.Gathered.{AreGathered, AreThere}
 
 -- the values of all roots and then of all cells
 abbrev pub home_trees : Graph → List Tree
@@ -35,13 +35,15 @@ AreLaid R earlier [] [] = Unit {0}
 AreLaid R earlier (s ∷ ss) (t ∷ ts) = R s earlier × AreLaid R (earlier ++ t ∷ []) ss ts
 AreLaid R earlier _ _ = ⊥
 
--- These are the nodes of the graph: each home begins where those before it end, nothing follows the last one, and elements that are numbers are no nodes.
+-- These are the nodes of the graph: each home begins where those before it end, and nothing follows the last one. Elements that are numbers are
+-- among the numbers, and no nodes.
 pub record IsListOf (g : Graph) (n : Nodes) : Type 0 where
   pub roots : n.roots ≡ length g.roots
   pub homes : ArePaired (Begins n.list) n.starts.items (home_trees g)
   pub before : AreLaid (λ s ts. AreSaid n.list (take s n.list.nodes.items) ts) [] n.starts.items (home_trees g)
   pub all : AreSaid n.list n.list.nodes.items (home_trees g)
   pub gathered : AreGathered n.list.nodes.items
+  pub there : AreThere (length n.list.numbers.items) n.list.nodes.items
 
 -- the number of the first node of a root
 abbrev pub root_start : Nodes → ℕ → Option ℕ

@@ -8,7 +8,7 @@ ghost use Rattle.nd_flat.specs.declared.node.Seen.TheVariants.{Num as SeenNum};
 ghost use Rattle.library_types.specs.Low.{low};
 ghost use Rattle.library_nodes.specs.Low.{low_flat};
 ghost use Rattle.library_nodes.specs.Said.{node_flats};
-ghost use Rattle.library_nodes.specs.Gathered.{IsGathered, elements_of};
+ghost use Rattle.library_nodes.specs.Gathered.{IsGathered, IsThere, elements_of};
 ghost use Rattle.library_nodes.specs.Laying.{Adds, AddsOpen, AddsHomes, one_more, more_numbers};
 ghost use Rattle.library_nodes.specs.declared.nodes.NodeList.{NodeList as ListValue};
 
@@ -243,6 +243,7 @@ fn no_numbers(count: u32, numbers: &[u64]) -> Elements
 fn unlisted(count: u32) -> Elements
     ensures count { result.count ≡ count }
     ensures numbers { result.numbers ≡ 0 }
+    ensures from { result.from ≡ 0 }
 {
     Elements {
         count,
@@ -257,6 +258,7 @@ fn plain_node(octets: &mut Octets, seen: &Seen<'_>) -> Result<Node, Memory>
     ensures octets { OnOk result (octets.new ≡ octets.old ++ text_of (flat_seen seen.now).0) }
     ensures node { IfOk result (λ n. (zs os : List ℕ) → node_flats zs (octets.new ++ os) n ≡ low_flat (flat_seen seen.now) ∷ []) }
     ensures gathered { IfOk result (λ n. IsGathered (elements_of n) []) }
+    ensures there { IfOk result (λ n. (many : ℕ) → IsThere many (elements_of n)) }
 {
     match seen {
         Seen::Num(number) => Ok(Node::Number(low(*number))),
@@ -285,6 +287,7 @@ fn text_node(octets: &mut Octets, max: u32, text: &[u8]) -> Result<Node, Memory>
     ensures octets { OnOk result (octets.new ≡ octets.old ++ text.now) }
     ensures node { IfOk result (λ n. (zs os : List ℕ) → node_flats zs (octets.new ++ os) n ≡ (tree.Text max text.now, 0) ∷ []) }
     ensures gathered { IfOk result (λ n. IsGathered (elements_of n) []) }
+    ensures there { IfOk result (λ n. (many : ℕ) → IsThere many (elements_of n)) }
 {
     let from = octets.as_slice().len();
     octets.append(text)?;

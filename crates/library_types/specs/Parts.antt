@@ -1,6 +1,7 @@
 -- Members, enumerators and arms by their places, in numbers that cross to C.
 -- `d` is a type, `k` a place, `a` an arm, `u` the low 64 bits of a tag.
-use Rattle.std.specs.Prelude.{◌≡◌, ◌<◌, ℕ, Bool, true, false, ◌==◌, List, Option, Some, None, length, option_map, is_some, if◌then◌else◌, slice_get, ⊤, ◌⊎◌}
+use Rattle.std.specs.Prelude.{◌≡◌, ◌<◌, ℕ, Bool, true, false, ◌==◌, List, Option, Some, None, length, option_map, is_some, ⊤, ◌⊎◌}
+use Rattle.std.specs.Prelude.{if◌then◌else◌, slice_get}
 use Rattle.nd_types.specs.declared.types.Arm.{Arm}
 use Rattle.nd_types.specs.declared.types.Field.{Field}
 use Rattle.nd_types.specs.declared.types.TypeDef.{TypeDef}

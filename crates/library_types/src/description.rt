@@ -3,7 +3,8 @@ ghost use Rattle.std.specs.Prelude.{◌≡◌, ◌≤◌, option_map, length};
 ghost use Rattle.nd_types.specs.Legal.{part_count};
 ghost use Rattle.nd_types.specs.Table.{type_at, width, is_signed};
 ghost use Rattle.nd_types.specs.declared.TheConstants.{MEMBER_LIMIT};
-ghost use Rattle.library_types.specs.Described.{type_described, numeral, with_parts, with_elements, united, pointing, number_of, bit, bound_of, class_number, all_arms};
+ghost use Rattle.library_types.specs.Described.{type_described, numeral, with_parts, with_elements, united, pointing};
+ghost use Rattle.library_types.specs.Described.{number_of, bit, bound_of, class_number, all_arms};
 
 use nd_types::{Arm, Arms, Class, Interface, Prim, TypeDef, TypeId};
 

@@ -1,5 +1,5 @@
-//! The types of an interface by their numbers; the roots of a side of an operation, the members of structs, the arms of unions and the enumerators, by
-//! their places and by their names; what of these crosses to C, in numbers.
+//! The types of an interface by their numbers; the roots of a side of an operation, the members of structs, the arms of unions and the enumerators,
+//! by their places and by their names; what of these crosses to C, in numbers.
 #![tactic(auto)]
 
 mod bits;

@@ -59,7 +59,8 @@ impl Values {
     ) -> Result<((Values, u32), ItemLog), Refusal>
         requires request { request.now.side ≡ In }
         ensures decoded { (o : Operation) → slice_get request.now.interface.operations request.now.op ≡ Some o
-            → IfOk result (λ d. IsDecodedOf (setting_beside request.now.interface o Out (Some request.now.graph)) order octets.now d.0.1 d.0.0.graph) }
+            → IfOk result
+            (λ d. IsDecodedOf (setting_beside request.now.interface o Out (Some request.now.graph)) order octets.now d.0.1 d.0.0.graph) }
         ensures of { IfOk result (λ d. IsOf request.now.interface request.now.op Out (Some request.now.graph) d.0.0) }
         ensures logged { (o : Operation) → slice_get request.now.interface.operations request.now.op ≡ Some o
             → IfOk result (λ d. IsLoggedOf (setting_beside request.now.interface o Out (Some request.now.graph)) order octets.now d.1.items) }
