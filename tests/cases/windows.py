@@ -1,162 +1,191 @@
-"""The windows language: the word before a command, and counts that nothing states."""
+"""examples/real/windows.sed: what each of its lines makes of a file of Windows, and the octets of a request by MIDL, which are those of what it makes.
 
-from case import Case, interface, lines, octets
-from idl import marked, readable
+The octets were worked by hand from the rules of MIDL and of the transfer syntax. What the script leaves as it is must be refused, or have these octets.
+"""
 
-WORDS = ("compile", "plan", "decode", "explain", "trace", "drain", "encode", "migrate", "call", "wrap", "compat")
-HEADER = "interface t version 0.0 uuid 11111111-2222-3333-4444-555555555555"
+import re
+import subprocess
+from dataclasses import dataclass
+from pathlib import Path
+from tempfile import TemporaryDirectory
 
-# ----------------------------------------------------------------------------------------------------------------------
-# The word
+from case import ROOT, Case, CheckOf, Check, LeftOut, lines, octets
 
-ECHO = interface("long f([in] long x);")
-ECHO_OCTETS = octets("05000000")
-ECHO_TEXT = lines("values 2", "op f in", "x = 5")
-REQUEST = octets("05 00 00 03 10000000 1c00 0000 07000000 04000000 0000 0000 05000000")
-
-
-def refused(name, *words):
-    """Words that are no command, though the file and the input are there."""
-    return Case(f"windows: {name}", words, {"t.idl": ECHO}, ECHO_OCTETS, notes=lines("words refused"), status=2)
-
-
-def both(name, words, files, given, out):
-    """A command that writes the same with the word `windows` before it as without, since no file has a word of that language."""
-    return [Case(f"windows: {name}{more}", [*before, *words], files, given, out)
-            for before, more in (([], ", without the word"), (["windows"], ""))]
+REAL = ROOT / "examples" / "real"
+FILES = {f"examples/real/{name}.idl": (REAL / f"{name}.idl").read_bytes() for name in ("windows", "wide")}
+HEAD = """[
+    uuid("11111111-2222-3333-4444-555555555555"),
+    version("1.0"),
+    pointer_default(unique)
+]
+"""
+MADE = """[uuid(11111111-2222-3333-4444-555555555555), version(1.0), pointer_default(unique)]
+"""
+IMPORT = '  import "examples/real/windows.idl";\n'
 
 
-NO_COMMANDS = [
-    refused("alone", "windows"),
-    refused("before itself", "windows", "windows", "compile", "t.idl", "-"),
-    refused("before session", "windows", "session"),
-    refused("before sample", "windows", "sample", "1", "2"),
-    refused("before why", "windows", "why"),
-    refused("before help", "windows", "help"),
-    refused("before --version", "windows", "--version"),
-    refused("after the command", "decode", "windows", "t.idl", "-", "f", "in", "little"),
-    refused("at the end", "compile", "t.idl", "-", "windows"),
-    refused("in capitals", "WINDOWS", "compile", "t.idl", "-"),
-    *[refused(f"before {word} alone", "windows", word) for word in WORDS],
+@dataclass(frozen=True)
+class Row:
+    """The declarations of a file for MIDL, what the script makes of them, the values of a request of `f`, and its octets by MIDL; or, of what is left
+    as it is, what the compiler reports."""
+
+    name: str
+    before: str
+    after: str
+    values: str = ""
+    octets: str = ""
+    told: str = ""
+
+
+TEXT = "01000000 00000000 01000000 6900"  # a wide string of one letter, without a zero
+LETTER = "{offset = 0, actual = 1, letters = [105]}"
+WIDE = f"x = @1 @1 = {LETTER}"
+HELD = f"x = @1 @1 = @2 @2 = {LETTER}"
+POINTED = "typedef struct _S { long v; } S, *PS;"
+TYPEDEF = "typedef [handle, string] wchar_t *NAME;"
+MADE_TYPEDEF = "typedef wide_text *NAME;"
+
+ROWS = [
+    # Attribute lists over several lines, without blanks and with more of them
+    Row("a list over two lines", f"{POINTED}\nvoid f([in,\n  unique] PS x);", f"{POINTED}\nvoid f([in, unique] PS x);", "x = @1 @1 = {v = 7}", "01000000 07000000"),
+    Row("a list without blanks", f"{POINTED}\nvoid f([in,unique] PS x);", f"{POINTED}\nvoid f([in, unique] PS x);", "x = @1 @1 = {v = 7}", "01000000 07000000"),
+    Row("a list with more blanks", f"{POINTED}\nvoid f([ in , unique ] PS x);", f"{POINTED}\nvoid f([in, unique] PS x);", "x = @1 @1 = {v = 7}", "01000000 07000000"),
+    Row("a type on the line after its list", f"{POINTED}\nvoid f([in]\n  PS\n  x);", f"{POINTED}\nvoid f([in, ref] PS x);", "x = @1 @1 = {v = 7}", "07000000"),
+    Row("a typedef over several lines", "typedef struct _S {\n  long v;\n}\n  S,\n  *PS;\nvoid f([in] PS x);",
+        "typedef struct _S {\n  long v;\n} S, *PS;\nvoid f([in, ref] PS x);", "x = @1 @1 = {v = 7}", "07000000"),
+
+    # Binding handles and constant types
+    Row("a type that is a handle", "typedef [handle] long H;\nvoid f([in] H x);", "typedef long H;\nvoid f([in] H x);", "x = 7", "07000000"),
+    Row("a handle first in a list", f"{TYPEDEF}\nvoid f([in] NAME x);", f"{MADE_TYPEDEF}\nvoid f([in, ref] NAME x);", WIDE, TEXT),
+    Row("a handle last in a list", "typedef [string, handle] wchar_t *NAME;\nvoid f([in] NAME x);", f"{MADE_TYPEDEF}\nvoid f([in, ref] NAME x);", WIDE, TEXT),
+    Row("a member that is named handle", "typedef struct { long a, handle; } S;\nvoid f([in] S x);", "typedef struct { long a, handle; } S;\nvoid f([in] S x);",
+        "x = {a = 1, handle = 2}", "01000000 02000000"),
+    Row("a constant text", "void f([in, string] const char *x);", "void f([in, string] char *x);", 'x = @1 @1 = 2:"i"', "02000000 00000000 02000000 6900"),
+
+    # Texts of char, which stay
+    Row("a text of char", "void f([in, string] char *x);", "void f([in, string] char *x);", 'x = @1 @1 = 2:"i"', "02000000 00000000 02000000 6900"),
+    Row("a text of char, first in the list", "void f([string, in] CHAR *x);", "void f([string, in] CHAR *x);", 'x = @1 @1 = 2:"i"', "02000000 00000000 02000000 6900"),
+    Row("a text of char in an array", "typedef struct { [string] char x[4]; } S;\nvoid f([in] S x);", "typedef struct { [string] char x[4]; } S;\nvoid f([in] S x);",
+        'x = {x = "i"}', "00000000 02000000 6900"),
+
+    # Wide texts
+    Row("a wide text", "void f([in, string] wchar_t *x);", "void f([in] wide_text *x);", WIDE, TEXT),
+    Row("a wide text by WCHAR", "void f([in,string] WCHAR* x);", "void f([in] wide_text * x);", WIDE, TEXT),
+    Row("a wide text, first in the list", "void f([string, in] WCHAR *x);", "void f([in] wide_text *x);", WIDE, TEXT),
+    Row("a wide text, in the middle of the list", "void f([in, string, unique] WCHAR *x);", "void f([in, unique] wide_text *x);", WIDE, "01000000" + TEXT),
+    Row("a constant wide text", "void f([in, string] const wchar_t *x);", "void f([in] wide_text *x);", WIDE, TEXT),
+    Row("a wide text by LPWSTR", "void f([in, string] LPWSTR x);", "void f([in] wide_text * x);", WIDE, TEXT),
+    Row("a wide text by LPCWSTR, unique", "void f([in, unique, string] LPCWSTR x);", "void f([in, unique] wide_text * x);", WIDE, "01000000" + TEXT),
+    Row("a pointer to a wide text", "void f([in, string] wchar_t **x);", "void f([in] wide_text **x);", HELD, "02000000" + TEXT),
+    Row("a pointer to a wide text by PWSTR", "void f([in, string] PWSTR *x);", "void f([in] wide_text * *x);", HELD, "02000000" + TEXT),
+    Row("a member that is a wide text", "typedef struct { [string] wchar_t *x; } S;\nvoid f([in] S x);", "typedef struct { wide_text *x; } S;\nvoid f([in] S x);",
+        f"x = {{x = @1}} @1 = {LETTER}", "01000000" + TEXT),
+    Row("a wide text by a typedef", f"{TYPEDEF}\nvoid f([in, string, unique] NAME x);", f"{MADE_TYPEDEF}\nvoid f([in, unique] NAME x);", WIDE, "01000000" + TEXT),
+    Row("a wide text by a typedef, first in the list", f"{TYPEDEF}\nvoid f([string, in] NAME x);", f"{MADE_TYPEDEF}\nvoid f([in, ref] NAME x);", WIDE, TEXT),
+    Row("a member that is a wide text by a typedef", f"{TYPEDEF}\ntypedef struct {{ [string] NAME x; }} S;\nvoid f([in] S x);",
+        f"{MADE_TYPEDEF}\ntypedef struct {{ NAME x; }} S;\nvoid f([in] S x);", f"x = {{x = @1}} @1 = {LETTER}", "01000000" + TEXT),
+    Row("the letters of an RPC_UNICODE_STRING",
+        "typedef struct { USHORT Length; USHORT MaximumLength; [size_is(MaximumLength/2), length_is(Length/2)] WCHAR *Buffer; } S;\nvoid f([in] S x);",
+        "typedef struct { USHORT Length; USHORT MaximumLength; wide_text *Buffer; } S;\nvoid f([in] S x);",
+        f"x = {{Length = 2, MaximumLength = 2, Buffer = @1}} @1 = {LETTER}", "0200 0200 01000000" + TEXT),
+    Row("one letter", "void f([in] wchar_t *x);", "void f([in] WCHAR *x);", "x = @1 @1 = 105", "6900"),
+    Row("one letter by LPWSTR", "void f([in] LPWSTR x);", "void f([in, ref] LPWSTR x);", "x = @1 @1 = 105", "6900"),
+    Row("letters with a count", "void f([in, size_is(n)] WCHAR *x, [in] DWORD n);", "void f([in, size_is(n)] WCHAR *x, [in] DWORD n);", "x = @1 n = 2 @1 = [105, 0]", "02000000 69000000 02000000"),
+
+    # Wide texts that it does not know, which the compiler refuses
+    Row("a wide text in an array", "typedef struct { [string] wchar_t x[4]; } S;", "typedef struct { [string] WCHAR x[4]; } S;", told="Rule 33"),
+    Row("a wide text by a typedef of one letter", "typedef WCHAR *NAME;\nvoid f([in, string] NAME x);", "typedef WCHAR *NAME;\nvoid f([in, string, ref] NAME x);", told="Rule 33"),
+    Row("a typedef of an array that is a wide text", "typedef [string] wchar_t NAME[8];", "typedef [string] WCHAR NAME[8];", told="Rule 33"),
+    Row("a wide text with room", "void f([in, string, size_is(n)] wchar_t *x, [in] DWORD n);", "void f([in, size_is(n)] wide_text *x, [in] DWORD n);", told="Rule"),
+    Row("a type that no file declares", "void f([in, string] NAME x);", "void f([in, string] NAME x);", told="Unknown NAME"),
+
+    # Top-level pointers
+    Row("a pointer by a typedef", f"{POINTED}\nvoid f([in] PS x);", f"{POINTED}\nvoid f([in, ref] PS x);", "x = @1 @1 = {v = 7}", "07000000"),
+    Row("a pointer by a typedef, first out", f"{POINTED}\nvoid f([out, in] PS x);", f"{POINTED}\nvoid f([out, in, ref] PS x);", "x = @1 @1 = {v = 7}", "07000000"),
+    Row("a pointer by a typedef with a class", "typedef [unique] long *PL;\nvoid f([in] PL x);", "typedef [unique] long *PL;\nvoid f([in] PL x);", "x = @1 @1 = 7", "01000000 07000000"),
+    Row("a pointer by a name in small letters", "typedef long *number;\nvoid f([in] number x);", "typedef long *number;\nvoid f([in, ref] number x);", "x = @1 @1 = 7", "07000000"),
+    Row("a pointer of windows.idl", "void f([in] LPDWORD x, [in] DWORD y);", "void f([in, ref] LPDWORD x, [in] DWORD y);", "x = @1 y = 8 @1 = 7", "07000000 08000000"),
+    Row("two pointers", "void f([in] PDWORD x, [in, unique] PDWORD y);", "void f([in, ref] PDWORD x, [in, unique] PDWORD y);", "x = @1 y = @2 @1 = 7 @2 = 8", "07000000 02000000 08000000"),
+    Row("a pointer to a pointer by a typedef", f"{POINTED}\nvoid f([in] PS *x);", f"{POINTED}\nvoid f([in, ref] PS *x);", "x = @1 @1 = @2 @2 = {v = 7}", "02000000 07000000"),
+    Row("an enumeration that begins with P", "typedef enum _POLICY { A, B } POLICY, *PPOLICY;\nvoid f([in] POLICY x);",
+        "typedef enum _POLICY { A, B } POLICY, *PPOLICY;\nvoid f([in] POLICY x);", "x = 1", "0100"),
+    Row("a handle that begins with P", "typedef [context_handle] void *PRIMARY_HANDLE;\nvoid f([in] PRIMARY_HANDLE x);",
+        "typedef [context_handle] void *PRIMARY_HANDLE;\nvoid f([in] PRIMARY_HANDLE x);",
+        "x = ctx(0, 00112233-4455-6677-8899-aabbccddeeff)", "00000000 33221100 5544 7766 8899 aabbccddeeff"),
+
+    # New names of windows.idl
+    Row("ULARGE_INTEGER", "void f([in] ULARGE_INTEGER x, [in] PULARGE_INTEGER y);", "void f([in] ULARGE_INTEGER x, [in, ref] PULARGE_INTEGER y);",
+        "x = {QuadPart = 18446744073709551615} y = @1 @1 = {QuadPart = 1}", "ffffffffffffffff 0100000000000000"),
+    Row("DWORDLONG", "void f([in] DWORDLONG x);", "void f([in] DWORDLONG x);", "x = 18446744073709551615", "ffffffffffffffff"),
 ]
 
-SAME = [
-    *both("compile", ["compile", "t.idl", "-"], {"t.idl": ECHO}, b"", lines(HEADER, "op 0 f", "in x 7", "out return 7")),
-    *both("decode", ["decode", "t.idl", "-", "f", "in", "little"], {"t.idl": ECHO}, ECHO_OCTETS, ECHO_TEXT),
-    *both("explain", ["explain", "t.idl", "-", "f", "in", "little"], {"t.idl": ECHO}, ECHO_OCTETS, lines("0 4 num x 5")),
-    *both("trace", ["trace", "t.idl", "-", "f", "in", "little"], {"t.idl": ECHO}, ECHO_OCTETS, lines("0 4 num x 5")),
-    *both("drain", ["drain", "t.idl", "-", "f", "in", "little"], {"t.idl": ECHO}, ECHO_OCTETS, ECHO_TEXT),
-    *both("encode", ["encode", "t.idl", "-", "f", "in", "little", "1"], {"t.idl": ECHO}, ECHO_TEXT, ECHO_OCTETS),
-    *both("migrate", ["migrate", "t.idl", "-", "f", "in"], {"t.idl": ECHO}, lines("values 1", "op f in", "x = 5"), ECHO_TEXT),
-    *both("call", ["call", "t.idl", "-", "-"], {"t.idl": ECHO}, REQUEST, lines("call 7") + ECHO_TEXT),
-    *both("wrap", ["wrap", "t.idl", "-", "f", "in", "little", "7", "1024"], {"t.idl": ECHO}, ECHO_TEXT, REQUEST),
-    *both("compat", ["compat", "t.idl", "-", "t.idl", "-"], {"t.idl": ECHO}, b"", lines("compatible 1")),
-    *both("compat with why", ["compat", "t.idl", "-", "t.idl", "-", "why"], {"t.idl": ECHO}, b"", lines("compatible 1")),
-    *both("given", ["decode", "t.idl", "-", "f", "out", "little", "given", "r.text"], {"t.idl": ECHO, "r.text": ECHO_TEXT}, octets("06000000"),
-          lines("values 2", "op f out", "return = 6")),
+# What is before the declarations: the script makes all of them the same
+HEADERS = {
+    "ms_union last": HEAD.replace("pointer_default(unique)", "pointer_default(unique),\n    ms_union"),
+    "ms_union first": HEAD.replace("    uuid", "    ms_union,\n    uuid"),
+    "ms_union in the middle": HEAD.replace("    version", "    ms_union,\n    version"),
+    "in one line, without blanks": '[uuid("11111111-2222-3333-4444-555555555555"),ms_union,version(1.0),pointer_default(unique)]\n',
+    "with imports": 'import "ms-dtyp.idl";\n  import "ms-lsad.idl", "ms-samr.idl";\n' + HEAD,
+}
+
+
+def translated(text: str) -> str:
+    """What the script makes of a file."""
+    ran = subprocess.run(["sed", "-E", "-f", str(REAL / "windows.sed")], input=text, stdout=subprocess.PIPE, stderr=subprocess.STDOUT, universal_newlines=True)
+    if "GNU" not in subprocess.run(["sed", "--version"], stdout=subprocess.PIPE, stderr=subprocess.STDOUT, universal_newlines=True).stdout:
+        raise LeftOut("there is no GNU sed")
+    return ran.stdout
+
+
+def differs(wanted: str, found: str) -> list:
+    return [] if wanted == found else [f"wanted {wanted!r}", f"found {found!r}"]
+
+
+def run(program: str, words: list, made: str, given: bytes = b"") -> subprocess.CompletedProcess:
+    """Runs the program on a file that the script made."""
+    with TemporaryDirectory() as folder:
+        for name, content in {**FILES, "t.idl": made.encode()}.items():
+            path = Path(folder, name)
+            path.parent.mkdir(parents=True, exist_ok=True)
+            path.write_bytes(content)
+        return subprocess.run([program, *words], cwd=folder, input=given, stdout=subprocess.PIPE, stderr=subprocess.PIPE)
+
+
+def of_row(row: Row) -> CheckOf:
+    """The case of a row: what the script makes, and its octets or its refusal."""
+
+    def find(program: str) -> list:
+        made = translated(f"{HEAD}interface t\n{{\n{row.before}\n}}\n")
+        wrong = differs(f"{MADE}interface t\n{{\n{IMPORT}{row.after}\n}}\n", made)
+        if row.told:
+            told = run(program, ["compile", "t.idl", "-"], made).stderr.decode()
+            return wrong + ([] if re.fullmatch(rf"idl t\.idl:\d+:\d+: {row.told}.*\n", told) else [f"found {told!r}"])
+        values = lines(f"values 2 op f in {row.values}")
+        ran = run(program, ["encode", "t.idl", "-", "f", "in", "little", "1"], made, values)
+        return wrong + differs(octets(row.octets).hex(" "), ran.stdout.hex(" ")) + differs("", ran.stderr.decode())
+
+    return CheckOf(f"windows.sed: {row.name}", find)
+
+
+def of_header(name: str, head: str) -> Check:
+    """The case of a header."""
+
+    def find() -> list:
+        made = translated(f"{head}interface t {{\nvoid f();\n}}\n").lstrip("\n")
+        return differs(f"{MADE}interface t {{\n{IMPORT}void f();\n}}\n", made)
+
+    return Check(f"windows.sed: a header, {name}", find)
+
+
+def names_of_pointers() -> list:
+    """The names of pointers that windows.idl declares, and that the script does not know, or the other way round."""
+    known = set(re.findall(r"\*(\w+)[,;]", "".join(re.findall(r"^  s/\$/(.*)/$", (REAL / "windows.sed").read_text(), flags=re.MULTILINE))))
+    there = {name for line in (REAL / "windows.idl").read_text().splitlines() if re.match("  (typedef|})", line) for name in re.findall(r"\*(\w+)[,;]", line)}
+    return [f"{name} is not in windows.sed" for name in sorted(there - known)] + [f"{name} is not in windows.idl" for name in sorted(known - there)]
+
+
+CASES = [
+    Check("windows.sed: knows the pointers of windows.idl", names_of_pointers),
+    *(of_header(name, head) for name, head in HEADERS.items()),
+    *map(of_row, ROWS),
 ]
-
-# ----------------------------------------------------------------------------------------------------------------------
-# The two words: names in C706, and outside attribute brackets in both languages
-
-NAMES = interface("typedef struct any_size { long any_length; } any_size;", "void f([in] any_size any_length);")
-TURNED = interface("void f([in] long any_size, [in, size_is(any_size)] byte a[*]);")
-
-
-def wrong(what, text, *before):
-    """A file that is refused with `what` at the mark."""
-    content, place = marked(text)
-    return Case(f"windows: {what}{' windows' if before else ''}: {readable(text)}", [*before, "compile", "t.idl", "-"], {"t.idl": content},
-                notes=lines(f"idl t.idl:{place}: {what}"), status=6)
-
-
-MEANT = [
-    *both("names outside attribute brackets", ["decode", "t.idl", "-", "f", "in", "little"], {"t.idl": NAMES}, ECHO_OCTETS,
-          lines("values 2", "op f in", "any_length = {any_length = 5}")),
-    Case("windows: a name in attribute brackets in C706", ["decode", "t.idl", "-", "f", "in", "little"], {"t.idl": TURNED},
-         octets("01000000 01000000 ab"), lines("values 2", "op f in", "any_size = 1", 'a = x"ab"')),
-    wrong("Syntax", "[local] interface t { void f([in] long any_size, [in, size_is(§any_size)] byte a[*]); }", "windows"),
-    wrong("Syntax", "[local] interface t { void f([in, §any_size] byte a[*]); }"),
-    wrong("Syntax", "[local] interface t { typedef [§any_length] byte a[*]; void f(); }"),
-    wrong("Rule 1", "[local] interface t { typedef [§any_size] byte a[*]; void f(); }", "windows"),
-    wrong("Syntax", "[local] interface t { void f([in, any_size§(n)] byte a[*], [in] long n); }", "windows"),
-    wrong("Rule 1", "[§any_length] interface t { void f(); }", "windows"),
-]
-
-# ----------------------------------------------------------------------------------------------------------------------
-# Counts that nothing states
-
-COUNTED = interface(
-    "typedef [any_length] unsigned short letters[*];",
-    "typedef struct { unsigned short Length, MaximumLength; [unique] letters *Buffer; } counted;",
-    "void name([in] counted *n);",
-)
-ROOM = octets("0a00 0c00 02000000 06000000 00000000 05000000 5300 6500 6500 6400 6f00")
-ROOM_TEXT = lines("values 2", "op name in", "n = @1", "@1 = {Length = 10, MaximumLength = 12, Buffer = @2}", "@2 = 6:0:[83, 101, 101, 100, 111]")
-DRIVE = interface("typedef [any_length] unsigned short drive[3];", "void f([in] drive d);")
-ACL = interface("typedef struct { unsigned char r, s; unsigned short n; [any_size] byte d[*]; } acl;", "void f([in] acl *a);")
-TREE = interface("typedef struct entry { unsigned long n; [any_size, unique] struct entry *e; } entry;", "void f([in] entry *e);")
-PARTS = interface("void f([in] long n, [in, size_is(n), any_length] short *a, [in, any_size, length_is(n)] short *b);")
-
-
-def read_and_written(name, text, operation, given, *values):
-    """Octets that are read as these values, which are written as the same octets."""
-    shown = lines("values 2", f"op {operation} in", *values)
-    return [Case(f"windows: {name}, decoded", ["windows", "decode", "t.idl", "-", operation, "in", "little"], {"t.idl": text}, given, shown),
-            Case(f"windows: {name}, encoded", ["windows", "encode", "t.idl", "-", operation, "in", "little", "1"], {"t.idl": text}, shown, given)]
-
-
-FREE = [
-    *read_and_written("a counted string with room", COUNTED, "name", ROOM, *ROOM_TEXT.decode().splitlines()[2:]),
-    *read_and_written("a counted string whose lengths say something else", COUNTED, "name",
-                      octets("0100 0200 02000000 03000000 01000000 02000000 5300 6500"),
-                      "n = @1", "@1 = {Length = 1, MaximumLength = 2, Buffer = @2}", "@2 = 3:1:[83, 101]"),
-    *read_and_written("an empty counted string", COUNTED, "name", octets("0000 0200 02000000 01000000 00000000 00000000"),
-                      "n = @1", "@1 = {Length = 0, MaximumLength = 2, Buffer = @2}", "@2 = 1:0:[]"),
-    *read_and_written("no string", COUNTED, "name", octets("0000 0000 00000000"), "n = @1", "@1 = {Length = 0, MaximumLength = 0, Buffer = null}"),
-    *read_and_written("a part of an array of fixed size", DRIVE, "f", octets("00000000 02000000 4300 3a00"), "d = 0:[67, 58]"),
-    *read_and_written("an array at the end of a struct", ACL, "f", octets("03000000 02 00 0b00 616263"),
-                      "a = @1", '@1 = {r = 2, s = 0, n = 11, d = x"616263"}'),
-    *read_and_written("a pointer to an array of the struct that has it", TREE, "f",
-                      octets("07000000 02000000 02000000 01000000 00000000 02000000 00000000"),
-                      "e = @1", "@1 = {n = 7, e = @2}", "@2 = [{n = 1, e = null}, {n = 2, e = null}]"),
-    *read_and_written("a stated count beside a free one", PARTS, "f",
-                      octets("02000000 02000000 00000000 01000000 0500 0000 03000000 00000000 02000000 0600 0700"),
-                      "n = 2", "a = @1", "b = @2", "@1 = 2:0:[5]", "@2 = 3:0:[6, 7]"),
-    Case("windows: a counted string that is explained", ["windows", "explain", "t.idl", "-", "f", "in", "little"], {"t.idl": DRIVE},
-         octets("00000000 01000000 4300"), lines("0 4 offset d 0", "4 4 actual d 1", "8 2 num d[0] 67")),
-    Case("windows: an actual count past the bound", ["windows", "decode", "t.idl", "-", "f", "in", "little"], {"t.idl": DRIVE},
-         octets("00000000 04000000"), notes=lines("refused: octets at 4: PastBound"), status=1),
-    Case("windows: a stated count that differs", ["windows", "decode", "t.idl", "-", "f", "in", "little"], {"t.idl": PARTS},
-         octets("02000000 03000000 00000000 01000000 0500 0000 03000000 00000000 01000000 0600"),
-         notes=lines("refused: octets at 4: Disagrees wanted 2 found 3"), status=1),
-    Case("windows: in an import", ["windows", "decode", "t.idl", "-", "f", "in", "little"],
-         {"t.idl": interface('import "b.idl";', "void f([in] drive d);"), "b.idl": interface("typedef [any_length] short drive[2];", name="b")},
-         octets("00000000 01000000 4300"), lines("values 2", "op f in", "d = 0:[67]")),
-]
-
-# ----------------------------------------------------------------------------------------------------------------------
-# Two versions
-
-SIZED = interface("void f([in] long n, [in, size_is(n), length_is(n)] byte a[*]);")
-LONG_FREE = interface("void f([in] long n, [in, size_is(n), any_length] byte a[*]);")
-SIZE_FREE = interface("void f([in] long n, [in, any_size, length_is(n)] byte a[*]);")
-
-
-def compared(name, old, new, out=b"", notes=b"", *why):
-    """What the comparison of two versions answers."""
-    return Case(f"windows: compat, {name}", ["windows", "compat", "old.idl", "-", "new.idl", "-", *why], {"old.idl": old, "new.idl": new},
-                out=out, notes=notes, status=1 if notes else 0)
-
-
-DIFFERS = lines("refused: compat: Differs f")
-
-VERSIONS = [
-    compared("free counts", LONG_FREE, LONG_FREE, lines("compatible 1")),
-    compared("a length is stated, and free", SIZED, LONG_FREE, notes=DIFFERS),
-    compared("a length is free, and stated", LONG_FREE, SIZED, notes=DIFFERS),
-    compared("a size is stated, and free", SIZED, SIZE_FREE, notes=DIFFERS),
-    compared("a size is free, and stated", SIZE_FREE, SIZED, notes=DIFFERS),
-]
-
-CASES = [*NO_COMMANDS, *SAME, *MEANT, *FREE, *VERSIONS]
