@@ -29,7 +29,8 @@ use Rattle.idl_grammar.specs.Expressions.{expr, outer}
 use Rattle.idl_grammar.specs.Tree as tree
 use Rattle.idl_grammar.specs.Tree.{Expr, AttributeKind, Attribute, Attributes, Bound, Declarator, Init, Enumerator, Label, TypeSpec, Members, Cases, Arms, Arm, Import, Parameter, Parameters, Export}
 use Rattle.idl_grammar.specs.Tree.{Tree}
-use Rattle.idl_grammar.specs.Grammar.{one_of, commas, in_round, width_words, class_words, variable_words, width, integer, simple, switch_type, pointer_class, variable_word, variable_name, attribute_kind}
+use Rattle.idl_grammar.specs.Grammar.{one_of, commas}
+use Rattle.idl_grammar.specs.Grammar.{in_round, width_words, class_words, variable_words, width, integer, simple, switch_type, pointer_class, variable_word, variable_name, attribute_kind}
 use Rattle.idl_grammar.specs.Grammar.{attribute, attributes, bound, dimension, declarator, declarators, enumerator, enumerators, label, labels, discriminant, union_switch, tag_symbol, in_curly}
 use Rattle.idl_grammar.specs.Grammar.{member, type_spec, some_members, members, some_cases, cases, some_arms, arms, arm, parameter, parameters, init, export, import, file}
 use Rattle.idl_grammar.specs.Symbols.{windows_symbols}
