@@ -1,7 +1,7 @@
 //! The numbers of the limits. Definitions cite the constants of the code, and here each has its value: the contract of a function that does nothing.
 #![tactic(auto)]
 
-ghost use Rattle.std.specs.Prelude.{◌≡◌, ℕ, ◌-◌, ◌^◌};
+ghost use Rattle.std.specs.Prelude.{◌≡◌, ◌-◌, ◌^◌};
 ghost use Rattle.nd_base.specs.declared.TheConstants.{FILE_LIMIT, STREAM_LIMIT, PIECE};
 ghost use Rattle.nd_types.specs.declared.TheConstants.{HANDLE, BASIC_TYPES, NESTING_LIMIT, ENUMERATOR_LIMIT, ELEMENT_LIMIT};
 ghost use Rattle.nd_types.specs.declared.TheConstants.{TYPE_LIMIT, OPERATION_LIMIT, PARAM_LIMIT, MEMBER_LIMIT};

@@ -1,6 +1,7 @@
 -- The graphs of the rows are small.
 use Rattle.std.proofs.Common.{◌≡◌, ℕ, [], ◌∷◌, sym, subst, lit<}
 use Rattle.nd_value.specs.declared.value.Graph.{Graph}
+use Rattle.test_graph.specs.Built.{pair_graph}
 use Rattle.test_graph.specs.Graphs as rows
 use Rattle.test_graph.specs.Graphs.{graph, pointer_to, IsSmall}
 
@@ -21,6 +22,9 @@ ring_swapped_small g e = subst IsSmall (sym e) (record { few_cells = lit< tt; fe
 
 pub ring_and_leaf_small : (g : Graph) → g ≡ rows.ring_and_leaf → IsSmall g
 ring_and_leaf_small g e = subst IsSmall (sym e) (record { few_cells = lit< tt; few_nodes = (lit< tt, (lit< tt, (lit< tt, tt))) })
+
+pub pair_small : (g : Graph) → g ≡ pair_graph → IsSmall g
+pair_small g e = subst IsSmall (sym e) (record { few_cells = lit< tt; few_nodes = (lit< tt, (lit< tt, (lit< tt, (lit< tt, (lit< tt, tt))))) })
 
 pub apart_small : (g : Graph) → g ≡ rows.apart → IsSmall g
 apart_small g e = subst IsSmall (sym e) (record { few_cells = lit< tt; few_nodes = (lit< tt, (lit< tt, (lit< tt, (lit< tt, tt)))) })

@@ -1,16 +1,19 @@
 // A graph that is built node by node: a pointer to a pair, whose first pointer is to a struct of two pointers to leaves 5 and 6, and whose second is
 // to the leaf 5 too.
-ghost use Rattle.std.specs.Prelude.{◌≡◌, ℕ, ◌<◌, ◌≤◌, length, IfOk, OnOk};
+ghost use Rattle.std.specs.Prelude.{◌≡◌, ℕ, ◌<◌, ◌≤◌, length, None, IfOk, OnOk};
+ghost use Rattle.nd_types.specs.declared.types.Side.TheVariants as sides;
 ghost use Rattle.nd_value.specs.Tree as tree;
-ghost use Rattle.nd_flat.specs.Building.{CanClose};
+ghost use Rattle.nd_flat.specs.Building.{CanClose, fitting};
 ghost use Rattle.nd_flat.specs.FlatForm.{IsKeepable};
 ghost use Rattle.test_graph.specs.Built.{two_nodes, leaf_nodes, filled, rooted};
 ghost use Rattle.test_graph.specs.Built.{with_cells, with_pointer, with_pair, with_two, with_leaf, with_leaves, pair_graph};
 
+use crate::graphs::pair;
 use crate::interface::{PAIR, interface};
+use crate::tests::fitted;
 use nd_base::{Counted, Memory, Steps};
-use nd_graph::{Builder, CellId, FlatGraph, Home, Seen, Walk};
-use nd_types::{Side, Tie, TypeId};
+use nd_graph::{Builder, CellId, Fit, FlatGraph, Home, Seen, Walk, same};
+use nd_types::{Interface, Side, Tie, TypeId};
 use std::alloc::Global;
 use std::test::Fail;
 
@@ -112,6 +115,26 @@ fn build(alloc: Global, tie: Tie) -> Result<FlatGraph, Memory>
     Ok(builder.into_graph())
 }
 
+// The graph as the fit that it is finished to, where that of the same values is known.
+fn finished(builder: Builder, beside: &Fit) -> Fit
+    requires whole { CanClose builder }
+    requires alike { fitting builder ≡ beside.now }
+    ensures { result ≡ beside.now }
+{
+    let flat = beside.flat();
+    let _roots = flat.root_count();
+    builder.finish()
+}
+
+// The pair, built and finished.
+fn build_fit(alloc: Global, interface: &Interface, beside: &Fit) -> Result<Fit, Memory>
+    requires of { beside.now ≡ record { graph = pair_graph; op = 1; side = sides.In; interface = interface.now; given = None } }
+    ensures { IfOk result (λ f. f ≡ beside.now) }
+{
+    let builder = build_leaves(alloc, interface.tie())?;
+    Ok(finished(builder, beside))
+}
+
 // Whether a walk sees these nodes and no more.
 fn sees(walk: Walk<'_>, nodes: &[Seen<'_>]) -> bool {
     let mut walk = walk;
@@ -157,4 +180,23 @@ fn pairs_are_built(rt: HostRuntime) -> Result<(), Fail> {
     );
     assert_eq!(rt; graph.cell_type(1), TypeId(16));
     Ok(())
+}
+
+#[test]
+#[tactic(auto, using(crate::proofs::Small::pair_small))]
+fn pairs_are_finished(rt: HostRuntime) -> Result<(), Fail> {
+    let interface = interface(rt.alloc())?;
+    let fit = fitted(rt.alloc(), &interface, PAIR, pair(rt.alloc())?)?;
+    assert!(rt; is_finished(rt.alloc(), &interface, &fit)?);
+    Ok(())
+}
+
+// Whether the pair that is built is finished as the fit of the same values.
+fn is_finished(alloc: Global, interface: &Interface, fit: &Fit) -> Result<bool, Memory>
+    requires of { fit.now ≡ record { graph = pair_graph; op = 1; side = sides.In; interface = interface.now; given = None } }
+{
+    let built = build_fit(alloc, interface, fit)?;
+    let is_of = built.op() == PAIR && built.side() == Side::In;
+    let alike = same(alloc, &built, fit)?;
+    Ok(is_of && alike)
 }

@@ -1,6 +1,7 @@
 // The graphs of the rows.
 ghost use Rattle.std.specs.Prelude.{◌≡◌, ◌++◌, [], ◌∷◌, IfOk, OnOk};
 ghost use Rattle.nd_value.specs.Seen.{tree_of};
+ghost use Rattle.test_graph.specs.Built.{pair_graph};
 ghost use Rattle.test_graph.specs.Graphs as rows;
 ghost use Rattle.test_graph.specs.Graphs.{cell, graph, of_two};
 
@@ -117,6 +118,19 @@ pub(crate) fn ring_and_leaf(alloc: Global) -> Result<Graph, Memory>
     let mut cells = Cells::new(alloc);
     add_cell(&mut cells, 12, pair_of(alloc, Val::Num(7), to(1))?)?;
     add_cell(&mut cells, 14, Val::Rec(one(alloc, Val::Num(8))?))?;
+    let roots = one(alloc, to(1))?;
+    Ok(Graph { roots, cells })
+}
+
+// A pair: its first pointer is to a struct of two pointers to leaves 5 and 6, and its second to the leaf 5 too.
+pub(crate) fn pair(alloc: Global) -> Result<Graph, Memory>
+    ensures { IfOk result (λ g. g ≡ pair_graph) }
+{
+    let mut cells = Cells::new(alloc);
+    add_cell(&mut cells, 18, pair_of(alloc, to(2), to(3))?)?;
+    add_cell(&mut cells, 16, pair_of(alloc, to(3), to(4))?)?;
+    add_cell(&mut cells, 14, Val::Rec(one(alloc, Val::Num(5))?))?;
+    add_cell(&mut cells, 14, Val::Rec(one(alloc, Val::Num(6))?))?;
     let roots = one(alloc, to(1))?;
     Ok(Graph { roots, cells })
 }

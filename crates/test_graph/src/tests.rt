@@ -16,7 +16,12 @@ use std::alloc::Global;
 use std::test::Fail;
 
 // A graph of the inputs of an operation as a fit. It is out of memory too where the graph does not conform.
-fn fitted(alloc: Global, interface: &Interface, op: u32, graph: Graph) -> Result<Fit, Memory>
+pub(crate) fn fitted(
+    alloc: Global,
+    interface: &Interface,
+    op: u32,
+    graph: Graph,
+) -> Result<Fit, Memory>
     requires operations { interface.now.operations ≡ row_operations }
     requires known { op < 7 }
     requires small { IsSmall graph }
