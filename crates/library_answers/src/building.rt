@@ -48,7 +48,10 @@ pub fn build_values(
     let Some(side) = side_of(side) else {
         return ARGUMENT;
     };
-    if operation as usize >= compiled.interface().operations.len() || has_too_many(listing) {
+    if operation as usize >= compiled.interface().operations.len() {
+        return ARGUMENT;
+    }
+    if has_too_many(listing) {
         return ARGUMENT;
     }
     match build(alloc, compiled, operation, side, listing) {
@@ -86,7 +89,10 @@ pub fn build_reply(
     ensures node_kept { (result ≡ WRONG_NODE → ⊥) → node.new ≡ node.old }
     ensures fault_kept { (result ≡ REFUSED → ⊥) → fault.new.value ≡ fault.old.value }
 {
-    if !is_request(given) || has_too_many(listing) {
+    if !is_request(given) {
+        return ARGUMENT;
+    }
+    if has_too_many(listing) {
         return ARGUMENT;
     }
     // A fit is of an operation of its interface.

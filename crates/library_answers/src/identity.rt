@@ -2,10 +2,9 @@
 ghost use Rattle.std.specs.Prelude.{◌≡◌, ◌≤◌, ◌<◌, length, take, drop};
 ghost use Rattle.nd_types.specs.Meant.{meant_by};
 ghost use Rattle.idl_listing.specs.Listing.{listing};
-ghost use Rattle.library_calls.specs.Halves.{joined_halves};
 ghost use Rattle.library_answers.specs.Identity.{IsIdentity, has_uuid, uuid_number};
 
-use crate::answers::{ARGUMENT, EMPTY, MEMORY, OK, REFUSED, SHORT, lay_out};
+use crate::answers::{ARGUMENT, EMPTY, MEMORY, OK, SHORT, lay_out};
 use idl_listing::interface_listing;
 use library_calls::Wide;
 use library_interface::Compiled;

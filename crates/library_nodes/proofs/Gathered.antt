@@ -70,14 +70,14 @@ pub there_append : (many : ℕ) (ms ns : List Node) → AreThere many ms → Are
 there_append many [] ns g h = h
 there_append many (m ∷ ms) ns g h = (g.0, there_append many ms ns g.1 h)
 
-one_later : (many more : ℕ) (o : Option Elements) → many ≤ more → IsThere many o → IsThere more o
-one_later many more None less g = tt
-one_later many more (Some e) less g = let h : e.from + e.numbers ≤ many = g in omega (arith, less, h)
+one_later : (many later : ℕ) (o : Option Elements) → many ≤ later → IsThere many o → IsThere later o
+one_later many later None less g = tt
+one_later many later (Some e) less g = let h : e.from + e.numbers ≤ many = g in omega (arith, less, h)
 
 -- they are there where more numbers are
-pub there_later : (many more : ℕ) (ns : List Node) → many ≤ more → AreThere many ns → AreThere more ns
-there_later many more [] less g = tt
-there_later many more (n ∷ ns) less g = (one_later many more (elements_of n) less g.0, there_later many more ns less g.1)
+pub there_later : (many later : ℕ) (ns : List Node) → many ≤ later → AreThere many ns → AreThere later ns
+there_later many later [] less g = tt
+there_later many later (n ∷ ns) less g = (one_later many later (elements_of n) less g.0, there_later many later ns less g.1)
 
 pub there_front : (many : ℕ) (ms ns : List Node) → AreThere many (ms ++ ns) → AreThere many ms
 there_front many [] ns g = tt
@@ -96,8 +96,8 @@ last_there xs (item.Pipe e) l = let h : e.from + e.numbers ≡ length xs = l in 
 
 -- the last node in the place of another, after numbers were added that are its own
 pub last_added : (xs ys : List ℕ) (ms : List Node) (m n : Node) → length xs ≤ length ys → AreLast ys (Some n) → AreThere (length xs) (ms ++ m ∷ []) → AreThere (length ys) (ms ++ n ∷ [])
-last_added xs ys ms m n more l g =
-    there_append (length ys) ms (n ∷ []) (there_later (length xs) (length ys) ms more (there_front (length xs) ms (m ∷ []) g)) (last_there ys n l, tt)
+last_added xs ys ms m n longer l g =
+    there_append (length ys) ms (n ∷ []) (there_later (length xs) (length ys) ms longer (there_front (length xs) ms (m ∷ []) g)) (last_there ys n l, tt)
 
 pub longer_list : (xs ys zs : List ℕ) → ys ≡ xs ++ zs → length xs ≤ length ys
 longer_list xs ys zs is = let e : length ys ≡ length (xs ++ zs) = ap length is in omega (arith, e, length_both xs zs) where
