@@ -116,7 +116,7 @@ fn command_of_count(words: &[String]) -> Option<Command<'_>>
 
 // A command with its interface files in the windows language, if there is one that names such files, and `--help`.
 fn if_windows(command: Option<Command<'_>>) -> Option<Command<'_>>
-    requires { IfSome command.entry IsWellFormed }
+    requires { IfSome command IsWellFormed }
     ensures command { option_map command_of result ≡ if_in_windows (option_map command_of command.entry) }
     ensures formed { IfSome result IsWellFormed }
 {
