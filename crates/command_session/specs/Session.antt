@@ -30,7 +30,7 @@ session_over s k = record { input = s; stock = k }
 pub record IsSessionDone (x : SessionSeen) (made : List ℕ) : Type 0 where
   pub script : List ℕ
   pub taken : Consumes x.input.left x.input.left_now script
-  pub whole : x.input.ended ≡ true
+  pub whole : x.input.ended_now ≡ true
   pub none_left : IsAtEnd x.input.left_now
   pub few : length script ≤ script_limit
   pub lines : List Line
