@@ -5,4 +5,4 @@ use Rattle.ctx_store.specs.contracts.boxed.BoxDynResourceResource.TheImpl.{shows
 use Rattle.test_base.proofs.full.open_many.Given as goal
 
 abbrev pub invariant-loop-at : goal.invariant-loop-at
-invariant-loop-at l = AreLive (store_seen shows-value l.store) × (l.fn.count + 1 ≤ store_spare l.store + l.at)
+invariant-loop-at l = AreLive (store_seen shows-value.it l.store) × (l.fn.count + 1 ≤ store_spare l.store + l.at)
