@@ -2,7 +2,7 @@
 -- `k` are the octets with the partial graph in which they are refused, `h` is the pipe's home, `name` its name, `t` the type of its elements, `ks` are the
 -- elements of a chunk, `us` those after it, `v` is how many a chunk has.
 use Rattle.std.proofs.Common.{◌≡◌, ◌⊎◌, inl, inr, ◌∙◌, ℕ, ◌+◌, ◌-◌, ◌<◌, ◌≤◌, zero, suc, List, [], ◌∷◌, ◌++◌, length, replicate, reverse, refl, sym, ap, ap₂, subst, append_assoc, arith}
-use Rattle.std.proofs.Common.{length-append, mul-comm, ◌*◌}
+use Rattle.std.proofs.Common.{length-append, mul_comm, ◌*◌}
 use Rattle.std.specs.Prelude.{sum}
 use Rattle.std.specs.List.{slice_get}
 use Rattle.std.proofs.lemmas.List.{length-replicate}
@@ -294,5 +294,5 @@ pub elements_taken : (size least old now : ℕ) → 1 ≤ least → size * least
 elements_taken size least old now some h =
     let a = times_less 1 least size some in
     let b : 1 * size ≡ size = omega arith in
-    let c : least * size ≡ size * least = mul-comm least size in
+    let c : least * size ≡ size * least = mul_comm least size in
     omega (arith, a, b, c, h)

@@ -1,5 +1,5 @@
 // Homes, one after the other: roots with their referents, and pipes.
-ghost use Rattle.std.specs.Prelude.{◌≡◌, ◌≤◌, ◌++◌, ◌∷◌, [], drop, length, reverse, take, ℕ, List, IfOk, IsErrOf, None, Some};
+ghost use Rattle.std.specs.Prelude.{◌≡◌, ◌<◌, ◌≤◌, ◌^◌, ◌++◌, ◌∷◌, [], drop, length, reverse, take, ℕ, List, IfOk, IsErrOf, None, Some};
 ghost use Rattle.std.specs.List.{slice_get};
 ghost use Rattle.nd_types.specs.declared.types.Class.TheVariants.{Ref};
 ghost use Rattle.nd_types.specs.declared.types.TypeDef.TheVariants as def;
@@ -235,9 +235,15 @@ fn walk_referents<'a>(ground: &Ground<'a>, walker: &mut Walker<'a>) -> Result<()
 {
     while let Some(next) = walker.cells.pending.pop() {
         walk_referent(ground, walker, next)?;
+        has_64_bits(walker.progress.next);
     }
     Ok(())
 }
+
+// A number of items is below 2^64.
+fn has_64_bits(items: usize)
+    ensures { items < 2 ^ 64 }
+{}
 
 // Walks over the referent of a pointer, unless it was come to before.
 fn walk_referent<'a>(

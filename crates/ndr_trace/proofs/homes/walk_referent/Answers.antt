@@ -1,4 +1,4 @@
-use Rattle.std.proofs.Common.{◌≡◌, rules, true, false, length, refl, sym, ap, arith, le_refl, vec_len, ◌∙◌}
+use Rattle.std.proofs.Common.{◌≡◌, rules, true, false, length, refl, sym, ap, arith, le_refl, vec_items, ◌∙◌}
 use Rattle.ndr_trace_value.specs.declared.progress.Halt.TheVariants as halts
 use Rattle.ndr_trace_value.specs.declared.nodes.Walker.{Walker}
 use Rattle.ndr_trace_value.proofs.Passing.{err_as}
@@ -33,11 +33,11 @@ returns-clause-goes c k u s due rest names n =
 
 pub returns-then-not-first-clause-paid : goal.returns-then-not-first-clause-paid
 returns-then-not-first-clause-paid c =
-    let same : length c.come_to.new.cells.pending.items ≡ length c.args.walker.now.cells.pending.items = ap vec_len c.in_ok-first.ensures.pending in
+    let same : length c.come_to.new.cells.pending.items ≡ length c.args.walker.now.cells.pending.items = ap (λ ps. length ps) (ap vec_items c.in_ok-first.ensures.pending) in
     (le_refl _, omega (arith, same))
 
 pub returns-clause-paid : goal.returns-clause-paid
 returns-clause-paid c =
-    let same : length c.come_to.new.cells.pending.items ≡ length c.args.walker.now.cells.pending.items = ap vec_len c.in_ok-first.ensures.pending in
+    let same : length c.come_to.new.cells.pending.items ≡ length c.args.walker.now.cells.pending.items = ap (λ ps. length ps) (ap vec_items c.in_ok-first.ensures.pending) in
     let (later, paid) = c.in_ok-walk_home.ensures.paid in
     (later, omega (arith, same, paid))

@@ -9,10 +9,9 @@ loop-next-init c k u s due rest names a = a
 
 pub loop-next-smaller : goal.loop-next-smaller
 loop-next-smaller c =
-    let fits : c.walk_referent.new.walker.progress.next < 2 ^ 64 = search rules in
     let (later, paid) = c.in_ok-walk_referent.ensures.paid in
     let one_less = ap (λ ps. length ps) c.in-Some.ensures.items ∙ length-append c.pop.new.self.items (c.in-Some.next ∷ []) in
-    omega (arith, fits, later, paid, one_less)
+    omega (arith, c.has_64_bits.ensures, later, paid, one_less)
 
 pub loop-next-preserved : goal.loop-next-preserved
 loop-next-preserved c k u s due rest names a =
