@@ -1,5 +1,5 @@
 // Octets in memory are decoded, and their items are written in words up to the first fault.
-ghost use Rattle.std.specs.Prelude.{◌≡◌, ◌<◌, ◌++◌, length, Some, option_map, IfOk, OnOk};
+ghost use Rattle.std.specs.Prelude.{◌≡◌, ◌<◌, ◌++◌, decimal, length, Some, option_map, IfOk, OnOk};
 ghost use Rattle.std.specs.List.{slice_get};
 ghost use Rattle.nd_base.specs.declared.octets.Order.{Order};
 ghost use Rattle.nd_types.specs.declared.types.Operation.{Operation};
@@ -131,10 +131,17 @@ fn with_gaps(lines: Octets, gaps: usize) -> Result<Octets, Memory>
     }
     let mut lines = lines;
     lines.append(b"gaps that are not zero: ")?;
-    let mut digits = Buffer::new();
-    lines.append(digits.format(gaps).as_bytes())?;
+    append_number(&mut lines, gaps)?;
     lines.append(b"\n")?;
     Ok(lines)
+}
+
+// Adds a number in base 10.
+fn append_number(lines: &mut Octets, number: usize) -> Result<(), Memory>
+    ensures { OnOk result (lines.new ≡ lines.old ++ decimal number) }
+{
+    let mut buffer = Buffer::new();
+    lines.append(buffer.format(number).as_bytes())
 }
 
 // The items before a fault, and the fault.

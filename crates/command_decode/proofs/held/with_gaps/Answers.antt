@@ -6,5 +6,5 @@ returns-then-gaps-eq0 c = no_line c.args.lines c.args.gaps c.if-gaps-eq0.true
 
 pub returns : goal.returns
 returns c =
-    one_line c.args.lines c.append.new.self c.append-2.new.self c.append-3.new.self c.args.gaps c.if-gaps-eq0.false c.in_ok-append.ensures.ok c.in_ok-append-2.ensures.ok
-    c.in_ok-append-3.ensures.ok
+    one_line c.args.lines c.append.new.self c.append_number.new.lines c.append-2.new.self c.args.gaps c.if-gaps-eq0.false c.in_ok-append.ensures.ok c.in_ok-append_number.ensures
+    c.in_ok-append-2.ensures.ok
