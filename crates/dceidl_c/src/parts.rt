@@ -92,7 +92,7 @@ pub extern "C" fn dceidl_member_at(
     interface: &mut Handle,
     of: u32,
     member: usize,
-    member_of: &mut u32,
+    part: &mut u32,
     out: &mut [u8],
     len: &mut usize,
 ) -> u32
@@ -100,14 +100,14 @@ pub extern "C" fn dceidl_member_at(
     ensures not_memory { result ≡ MEMORY → ⊥ }
     ensures same { interface.new.value ≡ interface.old.value }
     ensures written { result ≡ OK → IsSomeAnd (interface_in interface.old.value)
-        (λ i. IsSomeAnd (member_of (type_at i.types of) member) (λ f. (member_of.new ≡ f.of.0) × (take len.new out.new ≡ f.name))) }
+        (λ i. IsSomeAnd (member_of (type_at i.types of) member) (λ f. (part.new ≡ f.of.0) × (take len.new out.new ≡ f.name))) }
     ensures rest { result ≡ OK → drop len.new out.new ≡ drop len.new out.old }
     ensures room { result ≡ OK → len.new ≤ length out.old }
     ensures short { result ≡ SHORT → IsSomeAnd (interface_in interface.old.value)
         (λ i. IsSomeAnd (member_of (type_at i.types of) member) (λ f. (len.new ≡ length f.name) × (length out.old < len.new))) }
     ensures argument { result ≡ ARGUMENT → IsSomeAnd (interface_in interface.old.value) (λ i. member_of (type_at i.types of) member ≡ None) }
     ensures empty { result ≡ EMPTY → interface_in interface.old.value ≡ None }
-    ensures member_of_kept { (result ≡ OK → ⊥) → member_of.new ≡ member_of.old }
+    ensures part_kept { (result ≡ OK → ⊥) → part.new ≡ part.old }
     ensures kept { (result ≡ OK → ⊥) → out.new ≡ out.old }
     ensures len_kept { (result ≡ OK → ⊥) → (result ≡ SHORT → ⊥) → len.new ≡ len.old }
 {
@@ -115,7 +115,7 @@ pub extern "C" fn dceidl_member_at(
         return EMPTY;
     };
     let status = match &*held {
-        Held::Interface(compiled) => write_member(compiled, of, member, member_of, out, len),
+        Held::Interface(compiled) => write_member(compiled, of, member, part, out, len),
         _ => EMPTY,
     };
     interface.put(alloc, held);

@@ -109,7 +109,7 @@ pub fn write_member(
     compiled: &Compiled,
     of: u32,
     at: usize,
-    member_of: &mut u32,
+    part: &mut u32,
     out: &mut [u8],
     len: &mut usize,
 ) -> u32
@@ -117,35 +117,35 @@ pub fn write_member(
     ensures not_empty { result ≡ EMPTY → ⊥ }
     ensures not_memory { result ≡ MEMORY → ⊥ }
     ensures written { result ≡ OK → IsSomeAnd (member_of (type_at compiled.now.types of) at)
-        (λ f. (member_of.new ≡ f.of.0) × (take len.new out.new ≡ f.name)) }
+        (λ f. (part.new ≡ f.of.0) × (take len.new out.new ≡ f.name)) }
     ensures rest { result ≡ OK → drop len.new out.new ≡ drop len.new out.old }
     ensures room { result ≡ OK → len.new ≤ length out.old }
     ensures short { result ≡ SHORT → IsSomeAnd (member_of (type_at compiled.now.types of) at)
         (λ f. (len.new ≡ length f.name) × (length out.old < len.new)) }
     ensures argument { result ≡ ARGUMENT → member_of (type_at compiled.now.types of) at ≡ None }
-    ensures member_of_kept { (result ≡ OK → ⊥) → member_of.new ≡ member_of.old }
+    ensures part_kept { (result ≡ OK → ⊥) → part.new ≡ part.old }
     ensures kept { (result ≡ OK → ⊥) → out.new ≡ out.old }
     ensures len_kept { (result ≡ OK → ⊥) → (result ≡ SHORT → ⊥) → len.new ≡ len.old }
 {
     match member_at(&compiled.interface().types, of, at) {
-        Some(member) => fill_member(member, member_of, out, len),
+        Some(member) => fill_member(member, part, out, len),
         None => ARGUMENT,
     }
 }
 
 // The type of a member, and its name.
-fn fill_member(member: &Field, member_of: &mut u32, out: &mut [u8], len: &mut usize) -> u32
+fn fill_member(member: &Field, part: &mut u32, out: &mut [u8], len: &mut usize) -> u32
     ensures known { result ≤ SHORT }
     ensures not_empty { result ≡ EMPTY → ⊥ }
     ensures not_argument { result ≡ ARGUMENT → ⊥ }
     ensures not_memory { result ≡ MEMORY → ⊥ }
-    ensures of { result ≡ OK → member_of.new ≡ member.now.of.0 }
+    ensures of { result ≡ OK → part.new ≡ member.now.of.0 }
     ensures written { result ≡ OK → take len.new out.new ≡ member.now.name }
     ensures rest { result ≡ OK → drop len.new out.new ≡ drop len.new out.old }
     ensures room { result ≡ OK → len.new ≤ length out.old }
     ensures len { result ≡ SHORT → len.new ≡ length member.now.name }
     ensures short { result ≡ SHORT → length out.old < len.new }
-    ensures member_of_kept { (result ≡ OK → ⊥) → member_of.new ≡ member_of.old }
+    ensures part_kept { (result ≡ OK → ⊥) → part.new ≡ part.old }
     ensures kept { (result ≡ OK → ⊥) → out.new ≡ out.old }
     ensures len_kept { (result ≡ OK → ⊥) → (result ≡ SHORT → ⊥) → len.new ≡ len.old }
 {
@@ -153,7 +153,7 @@ fn fill_member(member: &Field, member_of: &mut u32, out: &mut [u8], len: &mut us
     if status != OK {
         return status;
     }
-    *member_of = member.of.0;
+    *part = member.of.0;
     OK
 }
 
