@@ -97,7 +97,7 @@ module _ (w : Setting) (order : Order) (octets : List ℕ) (taken : ℕ) (g : Gr
   split_length = ap length f.split ∙ length-append f.fetched f.rest
 
   -- all octets were taken
-  pub whole_is : length octets ≡ taken → (text : List ℕ) → text ≡ lines ++ gaps_line gaps → IsWholeTrace w order octets text
+  whole_is : length octets ≡ taken → (text : List ℕ) → text ≡ lines ++ gaps_line gaps → IsWholeTrace w order octets text
   whole_is all text text_is = record {
     gaps = gaps;
     shown = lines;
@@ -111,7 +111,7 @@ module _ (w : Setting) (order : Order) (octets : List ℕ) (taken : ℕ) (g : Gr
       nothing (x ∷ xs) e = let same = f.taken_is in absurd (omega (arith, e, same, all))
 
   -- an octet follows
-  pub trailed_is : (length octets ≡ taken → ⊥) → (text : List ℕ) → text ≡ lines ++ (trailing_line taken ++ gaps_line gaps) → IsTrailedTrace w order octets taken text
+  trailed_is : (length octets ≡ taken → ⊥) → (text : List ℕ) → text ≡ lines ++ (trailing_line taken ++ gaps_line gaps) → IsTrailedTrace w order octets taken text
   trailed_is more text text_is = go f.rest f.split split_length
     where
       go : (rest : List ℕ) → octets ≡ f.fetched ++ rest → length octets ≡ length f.fetched + length rest → IsTrailedTrace w order octets taken text
@@ -129,6 +129,10 @@ module _ (w : Setting) (order : Order) (octets : List ℕ) (taken : ℕ) (g : Gr
       }
 
   -- what is answered of such octets
+  pub whole_answer : length octets ≡ taken → (r : Result Traced NoMemory) → IfOk r (λ t. t ≡ traced.Whole (lines ++ gaps_line gaps)) → IfOk r (IsTraced w order octets)
+  whole_answer all (Ok t) same = subst (IsTraced w order octets) (sym same) (whole_is all (lines ++ gaps_line gaps) refl)
+  whole_answer all (Err e) same = tt
+
   pub trailed_answer : (length octets ≡ taken → ⊥) → (r : Result Traced NoMemory)
       → IfOk r (λ t. t ≡ traced.Refused (lines ++ (trailing_line taken ++ gaps_line gaps)) taken Trailing) → IfOk r (IsTraced w order octets)
   trailed_answer more (Ok t) same = subst (IsTraced w order octets) (sym same) (trailed_is more (lines ++ (trailing_line taken ++ gaps_line gaps)) refl)

@@ -92,11 +92,18 @@ fn explained(
     let lines = explain_over(alloc, interface, &decoded.fit, items, octets)?;
     let place = decoded.taken;
     if octets.len() == place as usize {
-        let text = with_gaps(lines, gaps)?;
-        Ok(Traced::Whole(text))
+        whole(lines, gaps)
     } else {
         trailed(lines, place, gaps)
     }
+}
+
+// Lines of values that take all octets.
+fn whole(lines: Octets, gaps: usize) -> Result<Traced, Memory>
+    ensures { IfOk result (λ t. t ≡ Traced.Whole (lines ++ gaps_line gaps)) }
+{
+    let text = with_gaps(lines, gaps)?;
+    Ok(Traced::Whole(text))
 }
 
 // Lines of values that an octet follows.
