@@ -163,7 +163,7 @@ class Scope:
             for name, constant in each.constants.items():
                 self.constants.setdefault(name, constant)
             self.defaults.update(each.pointer_defaults)
-        for name in ("dom_sid2",) if first else ():  # libndr writes it by hand
+        for name in ("dom_sid2", "dom_sid28") if first else ():  # libndr writes them by hand
             self.types[name] = first.types[name] if first else self.types[name]
         self.values: Dict[str, int] = {}
 

@@ -12,7 +12,7 @@ from .parser import Parser
 from .report import BARE, NO_EQUIVALENT, NOT_COMPARED, PARTLY, Report
 from .shapes import WIDE, Base, Count, Level, Nothing, Primitive, Scope, Shape, Special
 from .tokens import Place, Token
-from .tree import Attribute, Attributes, Body, Constant, Declarator, Field, Interface, Operation, Pipe, find, spelled
+from .tree import Attribute, Body, Declarator, Field, Interface, Named, Operation, Pipe, Simple, find, spelled
 
 RESERVED = set("""boolean byte case char const default double enum FALSE float handle_t hyper import int interface long NULL pipe short small struct switch TRUE
     typedef union unsigned void wchar_t ISO_LATIN_1 ISO_MULTI_LINGUAL ISO_UCS""".split())
@@ -200,7 +200,7 @@ class Writer:
         """A struct with its members."""
         if not body.fields:
             raise Nothing(body.place, f"the struct {body.name}, which has no members")
-        kept = [f for f in body.fields if not find(f.attributes, "skip", "skip_noinit")]
+        kept = self.unfolded([f for f in body.fields if not find(f.attributes, "skip", "skip_noinit")])
         shapes = self.shapes(kept, "member", self.scope.defaults.get(id(body), "unique"))
         fields = self.known(kept, shapes, False)
         inside = []
@@ -213,9 +213,38 @@ class Writer:
             written = self.field(shape, label, each, fields, "member")
             inside.append(f"    {written.text()};")
         for each in body.fields:
-            if each not in kept:
+            if find(each.attributes, "skip", "skip_noinit"):
                 self.report.add("left out", each.declarator.place, f"{each.declarator.name}, which is not sent")
         return "\n".join([f"  typedef struct {name} {{", *inside, f"  }} {name};"])
+
+    def unfolded(self, fields: List[Field]) -> List[Field]:
+        """Members that pidl's files have in the place of NDR's own counts, as what they are on the wire."""
+        if not self.scope.is_pidl or len(fields) < 2:
+            return fields
+        last, before = fields[-1], fields[-2]
+        count = before.declarator.name
+        place = last.declarator.place
+        is_octets = not last.declarator.bounds and not last.declarator.stars and (
+            find(last.attributes, "subcontext") or isinstance(last.type, Named) and last.type.name == "DATA_BLOB")
+        if len(fields) == 2 and is_octets and self.is_long(before):
+            self.report.add("note", place, f"{last.declarator.name} has its count twice, which must be equal: a conformant array of bytes")
+            size = Attribute("size_is", ((Token("word", count, place),),), place)
+            bytes_of = Field((size,), Simple(("byte",), place), replace(last.declarator, bounds=((),)))
+            return [before, bytes_of]
+        bounds = [spelled(b) for b in last.declarator.bounds]
+        if len(fields) > 2 and bounds == [count] and self.is_long(before) and self.is_long(fields[-3]) and "offset" in fields[-3].declarator.name:
+            self.report.add("note", place, f"{last.declarator.name} with {fields[-3].declarator.name} and {count}: an array that varies")
+            length = Attribute("length_is", ((Token("number", "0", place),),), place)
+            bound = (Token("number", str(1 << 24), place),)
+            return [*fields[:-3], replace(last, attributes=last.attributes + (length,), declarator=replace(last.declarator, bounds=(bound,)))]
+        return fields
+
+    def is_long(self, each: Field) -> bool:
+        """Whether a member is an unsigned number of four octets."""
+        if each.type is None or each.declarator.stars or each.declarator.bounds:
+            return False
+        shape = self.scope.expand(each.type)
+        return not shape.levels and isinstance(shape.base, Primitive) and shape.base.text == "unsigned long"
 
     def union(self, body: Body, name: str, switch: str) -> str:
         """A union with its arms. One that is used without a tag that can be named gets a tag of its own, which has the same octets."""
@@ -466,7 +495,7 @@ class Writer:
         """Whether the maximum count of a struct is in front of it."""
         if body.kind != "struct" or not body.fields or body.fields[-1].type is None:
             return False
-        last = body.fields[-1]
+        last = self.unfolded(body.fields)[-1]
         assert last.type is not None
         shape = self.scope.shape(last.type, last.attributes, last.declarator, "unique", "member")
         if shape.levels:
@@ -751,7 +780,12 @@ class Writer:
         """The whole file."""
         self.lost_because: Dict[Tuple[Operation, Tuple[str, ...]], Nothing] = {}
         numbered = []
+        on_wire = {o.name: o for o in self.interface.operations if find(o.attributes, "noopnum")}
         for operation in self.interface.operations:
+            as_sent = on_wire.get(f"_{operation.name}")
+            if as_sent and find(operation.attributes, "nopush", "nopull"):
+                self.report.add("note", operation.place, f"{operation.name}, which libndr writes by hand, is sent as {as_sent.name} says")
+                operation = replace(as_sent, name=operation.name, attributes=(), place=operation.place)
             for word in ("local", "callback", "noopnum"):
                 if find(operation.attributes, word):
                     self.report.add("left out", operation.place, f"{operation.name}, which is [{word}] and has no number")
