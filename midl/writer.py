@@ -66,7 +66,7 @@ class Writer:
         self.failed: Dict[object, Nothing] = {}
         self.open: Dict[object, str] = {}  # bodies that are being written
         self.names: Dict[str, object] = {}
-        self.is_padded = find(interface.attributes, "ms_union") is not None and not scope.is_pidl
+        self.is_padded = find(interface.attributes, "ms_union") is not None
 
     # Names
 
@@ -335,7 +335,7 @@ class Writer:
         shape = self.scope.shape(each.type, each.attributes, each.declarator, self.scope.defaults.get(id(body), "unique"), "arm")
         if isinstance(shape.base, Body) and shape.base.kind == "struct" and not shape.base.fields and not shape.levels:
             return None
-        if self.is_padded and self.alignment(shape) < max(self.alignments(body)):
+        if (self.is_padded or find(body.attributes, "ms_union")) and self.alignment(shape) < max(self.alignments(body)):
             raise Nothing(each.declarator.place, f"with ms_union it is after a gap to {max(self.alignments(body))}")
         if shape.levels and not shape.levels[0].is_pointer and shape.levels[0].is_conformant:
             raise Nothing(each.declarator.place, "a conformant array in an arm")

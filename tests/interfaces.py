@@ -10,6 +10,7 @@ compiled too, and a line on standard error says which is refused. The status is 
 from __future__ import annotations
 
 import argparse
+import re
 import subprocess
 import sys
 import tempfile
@@ -27,6 +28,12 @@ from midl.tokens import Refused
 COLUMNS = ["whole", NOT_COMPARED, PARTLY, NO_EQUIVALENT]
 PUBLISHED = set("""atsvc backupkey clusapi dnsserver drsuapi dssetup efs epmapper eventlog eventlog6 FileServerVssAgent frsrpc frstrans initshutdown iremotewinspool
     ITaskSchedulerService lsarpc mgmt netdfs netlogon ntsvcs samr spoolss srvsvc svcctl winreg witness wkssvc""".split())  # those of Samba and Wine that Microsoft publishes
+
+
+def has_procedures(text: str) -> bool:
+    """Whether a file may have an interface that is none of objects: one without a base."""
+    starts = [match.start() for match in re.finditer(r"\]\s*interface\s+\w+\s*\{", text)]
+    return any(not re.search(r"\b(object|odl|local)\b", text[max(0, at - 250):at].rpartition("}")[2]) for at in starts)
 
 
 def counts(report: Report) -> List[int]:
@@ -70,7 +77,7 @@ def main() -> int:
     words.add_argument("--program")
     given = words.parse_args()
     samba = sorted((given.samba / "librpc/idl").glob("*.idl"))
-    wine = [path for path in sorted(given.wine.glob("**/*.idl")) if "uuid" in path.read_text(errors="replace")]
+    wine = [path for path in sorted(given.wine.glob("**/*.idl")) if has_procedures(path.read_text(errors="replace"))]
     print("| Interface | Operations | Whole | Without some comparison | In part | A side without equivalent |\n|---|--:|--:|--:|--:|--:|")
     refused, all_published = 0, [0] * 5
     for title, paths, folders in (("Samba", samba, [given.samba / "librpc/idl"]), ("Wine", wine, [given.wine / "include", given.wine / "include/wine"])):
@@ -90,7 +97,7 @@ def main() -> int:
             print(row(f"`{made.name}` ({title})", numbers))
         print(row(f"**all of {title}**", sums))
         if unread:
-            print(f"{title}: {unread} files, which have objects alone, are not read", file=sys.stderr)
+            print(f"{title}: {unread} files cannot be read", file=sys.stderr)
     print(row("**those that Microsoft publishes**", all_published))
     return int(refused > 0)
 
