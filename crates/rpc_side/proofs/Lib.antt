@@ -1,0 +1,5 @@
+pub mod Bounds
+pub mod Keeping
+pub mod Stepping
+pub mod Streaming
+pub mod Within
