@@ -37,6 +37,7 @@ from midl.tokens import Refused, Token
 from midl.tree import Body, Field, Interface, Operation, find
 from midl.writer import Writer
 
+SIDES = 950  # that the bindings of Samba 4.17.12 fill, at least, with two seeds
 COUNTED = ("size_is", "length_is", "switch_is", "max_is")
 ANY = "(computed)"  # a value that libndr computes
 
@@ -214,10 +215,11 @@ class Filler:
         if body.name == "udlong":
             number = self.random.getrandbits(62)
             return number, {"low": number & 0xFFFFFFFF, "high": number >> 32}
-        if body.name == "dom_sid2":
+        if body.name in ("dom_sid2", "dom_sid28"):
             subs = [self.random.getrandbits(32) for _ in range(self.random.randrange(1, 5))]
             text = "S-1-5-" + "-".join(map(str, subs))
-            wanted = {"sid_rev_num": 1, "num_auths": len(subs), "id_auth": [0, 0, 0, 0, 0, 5], "sub_auths": subs}
+            rest = [0] * (5 - len(subs)) if body.name == "dom_sid28" else []
+            wanted = {"sid_rev_num": 1, "num_auths": len(subs), "id_auth": [0, 0, 0, 0, 0, 5], "sub_auths": subs + rest}
             return importlib.import_module("samba.dcerpc.security").dom_sid(text), wanted
         if Path(body.place.file).name == "pidl.idl":
             given = getattr(importlib.import_module("samba.dcerpc.misc"), body.name)()
@@ -441,14 +443,14 @@ def packed(call: Any, side: str, big: bool) -> Optional[bytes]:
         return None
 
 
-def is_unpacked(call: Any, side: str, big: bool, octets: bytes) -> bool:
-    """Whether libndr reads octets."""
+def refusal(call: Any, side: str, big: bool, octets: bytes) -> str:
+    """Why libndr refuses octets; nothing if it reads them."""
     ndr = importlib.import_module("samba.ndr")
     try:
         (ndr.ndr_unpack_in if side == "in" else ndr.ndr_unpack_out)(call, octets, bigendian=big)
-        return True
-    except Exception:
-        return False
+        return ""
+    except Exception as fault:
+        return re.sub(r"\d+", "N", str(fault))
 
 
 def apart(work: Callable[[], Any]) -> Any:
@@ -459,8 +461,8 @@ def apart(work: Callable[[], Any]) -> Any:
         os.close(reader)
         try:
             made = ("made", work())
-        except (NotFilled, NotConstant, Nothing) as fault:
-            made = ("not", str(fault))
+        except Exception as fault:  # nothing may leave this process but by its end
+            made = ("not", f"{'' if isinstance(fault, (NotFilled, NotConstant, Nothing)) else type(fault).__name__ + ' '}{fault}")
         with os.fdopen(writer, "wb") as pipe:
             pickle.dump(made, pipe)
             pipe.flush()
@@ -477,14 +479,19 @@ def apart(work: Callable[[], Any]) -> Any:
     return found
 
 
+def filled_call(scope: Scope, module: Any, operation: Operation, seed: int) -> Tuple[Any, Tuple[Dict[str, Any], Dict[str, Any]]]:
+    """A call with random values, and these values."""
+    call = call_of(module, operation)
+    return call, fill(scope, call, operation, random.Random(f"{operation.name} {seed}"))
+
+
 def filled(scope: Scope, module: Any, operation: Operation, seed: int) -> Dict[str, Tuple[Optional[bytes], Dict[str, Any]]]:
     """For each side the octets of a call with random values, and the values."""
-    call = call_of(module, operation)
-    wanted = fill(scope, call, operation, random.Random(f"{operation.name} {seed}"))
+    call, wanted = filled_call(scope, module, operation, seed)
     big = bool(seed % 2)
     made = {side: (packed(call, side, big), values) for side, values in zip(("in", "out"), wanted)}
     for side, (octets, _) in made.items():  # values that are in no stream, as a length over its maximum
-        if octets is not None and not is_unpacked(call_of(module, operation), side, big, octets):
+        if octets is not None and refusal(call, side, big, octets):
             made[side] = (None, {})
     return made
 
@@ -525,12 +532,12 @@ def mutate(program: Program, fresh: Callable[[], Any], name: str, side: str, big
     else:
         changed += bytes(source.randrange(1, 9))
     ours, _, notes = program.run("decode", name, side, "big" if big else "little", bytes(changed))
-    theirs = apart(lambda: is_unpacked(fresh(), side, big, bytes(changed)))
+    theirs = apart(lambda: refusal(fresh(), side, big, bytes(changed)))
     if ours == 0:
-        sums.mutated["read by both" if theirs else f"{kind}: refused by libndr alone"] += 1
+        sums.mutated["read by both" if not theirs else f"refused by libndr alone: {theirs}"] += 1
     else:
         reason = re.sub(r"refused: octets at \d+: (\w+).*", r"\1", notes)
-        sums.mutated["refused by both" if not theirs else f"{kind}: {reason}, read by libndr"] += 1
+        sums.mutated["refused by both" if theirs else f"{kind}: {reason}, read by libndr"] += 1
 
 
 def check_interface(interface: Interface, scope: Scope, made: Any, module: Any, words: argparse.Namespace) -> Sums:
@@ -562,7 +569,7 @@ def check_interface(interface: Interface, scope: Scope, made: Any, module: Any, 
                 done.add(side)
                 good = check_side(program, name, side, big, octets, wanted, PARTLY in marks, sums)
                 for _ in range(words.mutations if good is not None else 0):
-                    mutate(program, lambda: call_of(module, operation), name, side, big, octets, source, sums)
+                    mutate(program, lambda: filled_call(scope, module, operation, seed)[0], name, side, big, octets, source, sums)
         sums.filled += len(done)
     return sums
 
@@ -620,6 +627,9 @@ def check_all(given: argparse.Namespace) -> int:
                 setattr(total, name, getattr(total, name) + getattr(sums, name))
             total.mutated += sums.mutated
     print(f"{'all':22} {total.operations:10} {total.filled:5} {total.streams:7} {total.same:4} {total.refused:7} {faults:6}")
+    if not given.names and total.filled < SIDES:
+        print(f"too few sides are filled: {SIDES} were")
+        faults += 1
     for line, count in sorted(total.mutated.items()):
         print(f"mutated: {count} {line}")
     return int(faults > 0)
