@@ -1,6 +1,7 @@
 -- What a comparison comes to that asks for the first place at which versions differ, as the outcome of its command.
 use Rattle.std.proofs.Common.{◌≡◌, ◌∙◌, ℕ, true, List, [], Option, Some, None, refl, ap, sym, subst, inl, inr}
 use Rattle.std.specs.Prelude.{option_map}
+use Rattle.idl_grammar.specs.Files.{Idl}
 use Rattle.nd_base.specs.Over.{FilesOver}
 use Rattle.command_compile.specs.Compiled.{FileNames}
 use Rattle.command_compile.specs.Compat.{IsBeside, IsPlaceWritten}
@@ -45,7 +46,7 @@ told_at f old new (BadPdu place why) text written status line s l = absurd writt
 told_at f old new (BadScript row) text written status line s l = absurd written
 told_at f old new LongScript text written status line s l = absurd written
 
-module _ (x : Seen) (old : List ℕ) (old_acf : Option (List ℕ)) (new : List ℕ) (new_acf : Option (List ℕ)) where
+module _ (x : Seen) (old : Idl) (old_acf : Option (List ℕ)) (new : Idl) (new_acf : Option (List ℕ)) where
   abbrev asked : Command
   asked = Compat old old_acf new new_acf true
 
