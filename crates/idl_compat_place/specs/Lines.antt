@@ -40,6 +40,7 @@ prim_text prim.Long = codes "long"
 prim_text prim.UnsignedLong = codes "unsigned long"
 prim_text prim.Hyper = codes "hyper"
 prim_text prim.UnsignedHyper = codes "unsigned hyper"
+prim_text prim.Letter = codes "wchar_t"
 
 -- a word with a count
 abbrev pub counted : List ℕ → ℕ → List ℕ

@@ -39,6 +39,7 @@ fn prim_text(prim: Primitive) -> &'static [u8]
         Primitive::UnsignedLong => b"unsigned long",
         Primitive::Hyper => b"hyper",
         Primitive::UnsignedHyper => b"unsigned hyper",
+        Primitive::Letter => b"wchar_t",
     }
 }
 

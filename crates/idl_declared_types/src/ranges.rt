@@ -19,7 +19,8 @@ fn least(of: Primitive) -> i128
         | Primitive::UnsignedSmall
         | Primitive::UnsignedShort
         | Primitive::UnsignedLong
-        | Primitive::UnsignedHyper => 0,
+        | Primitive::UnsignedHyper
+        | Primitive::Letter => 0,
     }
 }
 
@@ -32,7 +33,7 @@ fn greatest(of: Primitive) -> i128
         Primitive::Char | Primitive::Byte | Primitive::UnsignedSmall => 0xff,
         Primitive::Small => 0x7f,
         Primitive::Short => 0x7fff,
-        Primitive::UnsignedShort => 0xffff,
+        Primitive::UnsignedShort | Primitive::Letter => 0xffff,
         Primitive::Long => 0x7fff_ffff,
         Primitive::UnsignedLong => 0xffff_ffff,
         Primitive::Hyper => 0x7fff_ffff_ffff_ffff,

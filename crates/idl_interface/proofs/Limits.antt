@@ -69,6 +69,7 @@ prim_narrow primitive.Long = omega arith
 prim_narrow primitive.UnsignedLong = omega arith
 prim_narrow primitive.Hyper = omega arith
 prim_narrow primitive.UnsignedHyper = omega arith
+prim_narrow primitive.Letter = omega arith
 
 -- the number of a type has 32 bits
 pub number_narrow : (s : Scene) (t : IdlType) → length (types_of s) ≤ TYPE_LIMIT → number_of_type s t < 2 ^ 32

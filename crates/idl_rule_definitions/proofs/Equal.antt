@@ -45,6 +45,7 @@ primitive_is primitive.Long primitive.Long h = refl
 primitive_is primitive.UnsignedLong primitive.UnsignedLong h = refl
 primitive_is primitive.Hyper primitive.Hyper h = refl
 primitive_is primitive.UnsignedHyper primitive.UnsignedHyper h = refl
+primitive_is primitive.Letter primitive.Letter h = refl
 primitive_is _ _ h = absurd (let e : false ≡ true = h in cc)
 
 pub count_is : (m n : Option ℤ) → same_count m n ≡ true → m ≡ n

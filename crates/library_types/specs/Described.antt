@@ -6,7 +6,7 @@ use Rattle.nd_types.specs.declared.types.Class.{Class}
 use Rattle.nd_types.specs.declared.types.Class.TheVariants.{Ref, Unique, Full}
 use Rattle.nd_types.specs.declared.types.Primitive as prims
 use Rattle.nd_types.specs.declared.types.Primitive.TheVariants.{Boolean, Char, Byte, Small, UnsignedSmall, Short, UnsignedShort, Long, UnsignedLong}
-use Rattle.nd_types.specs.declared.types.Primitive.TheVariants.{Hyper, UnsignedHyper}
+use Rattle.nd_types.specs.declared.types.Primitive.TheVariants.{Hyper, UnsignedHyper, Letter}
 use Rattle.nd_types.specs.declared.types.TypeDef.{TypeDef}
 use Rattle.nd_types.specs.declared.types.TypeDef.TheVariants as def
 use Rattle.nd_types.specs.declared.types.TypeId.{TypeId}
@@ -30,6 +30,7 @@ number_of Long = 8
 number_of UnsignedLong = 9
 number_of Hyper = 10
 number_of UnsignedHyper = 11
+number_of Letter = 12
 
 abbrev pub class_number : Class → ℕ
 class_number Ref = 1

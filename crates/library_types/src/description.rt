@@ -203,6 +203,7 @@ fn prim_number(prim: Prim) -> u32
         Prim::UnsignedLong => 9,
         Prim::Hyper => 10,
         Prim::UnsignedHyper => 11,
+        Prim::Letter => 12,
     }
 }
 
@@ -212,7 +213,7 @@ fn prim_width(prim: Prim) -> u32
 {
     match prim {
         Prim::Boolean | Prim::Char | Prim::Byte | Prim::Small | Prim::UnsignedSmall => 1,
-        Prim::Short | Prim::UnsignedShort => 2,
+        Prim::Short | Prim::UnsignedShort | Prim::Letter => 2,
         Prim::Long | Prim::UnsignedLong => 4,
         Prim::Hyper | Prim::UnsignedHyper => 8,
     }

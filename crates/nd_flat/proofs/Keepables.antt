@@ -5,7 +5,7 @@ use Rattle.std.proofs.lemmas.Bool.{and_parts}
 use Rattle.std.proofs.lemmas.Int.{ints}
 use lib.Signed.{le_z_yes}
 use Rattle.nd_types.specs.declared.types.Primitive.{Primitive}
-use Rattle.nd_types.specs.declared.types.Primitive.TheVariants.{Boolean, Char, Byte, Small, UnsignedSmall, Short, UnsignedShort, Long, UnsignedLong, Hyper, UnsignedHyper}
+use Rattle.nd_types.specs.declared.types.Primitive.TheVariants.{Boolean, Char, Byte, Small, UnsignedSmall, Short, UnsignedShort, Long, UnsignedLong, Hyper, UnsignedHyper, Letter}
 use Rattle.nd_types.specs.Table.{in_range, least, greatest}
 use Rattle.nd_flat.specs.FlatForm.{IsKeepableNumber}
 
@@ -21,6 +21,7 @@ low Long = le_z_yes tt
 low UnsignedLong = le_z_yes tt
 low Hyper = le_z_yes tt
 low UnsignedHyper = le_z_yes tt
+low Letter = le_z_yes tt
 
 high : (p : Primitive) → greatest p ≤ℤ pos (2 ^ 64 - 1)
 high Boolean = le_z_yes tt
@@ -34,6 +35,7 @@ high Long = le_z_yes tt
 high UnsignedLong = le_z_yes tt
 high Hyper = le_z_yes tt
 high UnsignedHyper = le_z_yes tt
+high Letter = le_z_yes tt
 
 in_turn : (x y z : ℤ) → x ≤ℤ y → y ≤ℤ z → x ≤ℤ z
 in_turn x y z h k = let a : x ≤ℤ y = h in let b : y ≤ℤ z = k in omega (arith, ints)

@@ -7,7 +7,7 @@ use Rattle.std.proofs.lemmas.Nat.{mod_below}
 use Rattle.std.proofs.lemmas.List.{drop-drop, length-drop, drop-append-le, take-append-le, take-append-drop}
 use Rattle.nd_base.specs.declared.octets.Order.{Order}
 use Rattle.nd_types.specs.declared.types.Primitive.{Primitive}
-use Rattle.nd_types.specs.declared.types.Primitive.TheVariants.{Boolean, Char, Byte, Small, UnsignedSmall, Short, UnsignedShort, Long, UnsignedLong, Hyper, UnsignedHyper}
+use Rattle.nd_types.specs.declared.types.Primitive.TheVariants.{Boolean, Char, Byte, Small, UnsignedSmall, Short, UnsignedShort, Long, UnsignedLong, Hyper, UnsignedHyper, Letter}
 use Rattle.nd_types.specs.Table.{width}
 use Rattle.nd_types.specs.Number.{value_of_octets}
 use Rattle.nd_value.specs.Tree as tree
@@ -89,6 +89,7 @@ width_some Long = omega arith
 width_some UnsignedLong = omega arith
 width_some Hyper = omega arith
 width_some UnsignedHyper = omega arith
+width_some Letter = omega arith
 
 width_most : (p : Primitive) → width p ≤ 8
 width_most Boolean = omega arith
@@ -102,6 +103,7 @@ width_most Long = omega arith
 width_most UnsignedLong = omega arith
 width_most Hyper = omega arith
 width_most UnsignedHyper = omega arith
+width_most Letter = omega arith
 
 below : (a b c : ℕ) → a < b → b ≤ c → a < c
 below a b c h g = omega (arith, h, g)

@@ -150,7 +150,7 @@ fn gap_before(at: usize, prim: Prim) -> usize
         Prim::Boolean | Prim::Char | Prim::Byte | Prim::Small | Prim::UnsignedSmall => {
             gap_to(at, 1)
         }
-        Prim::Short | Prim::UnsignedShort => gap_to(at, 2),
+        Prim::Short | Prim::UnsignedShort | Prim::Letter => gap_to(at, 2),
         Prim::Long | Prim::UnsignedLong => gap_to(at, 4),
         Prim::Hyper | Prim::UnsignedHyper => gap_to(at, 8),
     }

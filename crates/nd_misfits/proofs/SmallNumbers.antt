@@ -5,7 +5,7 @@ use Rattle.std.proofs.lemmas.Bool.{and_parts, leb-true, le-leb}
 use Rattle.nd_types.specs.declared.types.TypeDef.{TypeDef}
 use Rattle.nd_types.specs.declared.types.TypeDef.TheVariants as def
 use Rattle.nd_types.specs.declared.types.Primitive as prims
-use Rattle.nd_types.specs.declared.types.Primitive.TheVariants.{Boolean, Char, Byte, Small, UnsignedSmall, Short, UnsignedShort, Long, UnsignedLong, Hyper, UnsignedHyper}
+use Rattle.nd_types.specs.declared.types.Primitive.TheVariants.{Boolean, Char, Byte, Small, UnsignedSmall, Short, UnsignedShort, Long, UnsignedLong, Hyper, UnsignedHyper, Letter}
 use Rattle.nd_types.specs.Table.{Table, type_at, fits_octets, in_range, least, greatest}
 use Rattle.nd_value.specs.Tree as tree
 use Rattle.nd_value.specs.Tree.{Tree, Trees, Label, node, none, more, trees}
@@ -34,6 +34,7 @@ small_prim Long z h = small_up 2147483647 (omega arith) z h
 small_prim UnsignedLong z h = small_up 4294967295 (omega arith) z h
 small_prim Hyper z h = small_up 9223372036854775807 (omega arith) z h
 small_prim UnsignedHyper z h = small_up 18446744073709551615 (omega arith) z h
+small_prim Letter z h = small_up 65535 (omega arith) z h
 
 small_range : (p : prims.Primitive) (z : ℤ) → in_range p z ≡ true → is_small z ≡ true
 small_range p z h = small_prim p z (and_parts (int_le (least p) z) (int_le z (greatest p)) h).1

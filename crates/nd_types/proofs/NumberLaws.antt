@@ -9,7 +9,7 @@ use Rattle.std.proofs.lemmas.Nat.{div_below}
 use Rattle.nd_base.specs.declared.octets.Order.{Order}
 use Rattle.nd_base.specs.declared.octets.Order.TheVariants.{Big, Little}
 use Rattle.nd_types.specs.declared.types.Primitive.{Primitive}
-use Rattle.nd_types.specs.declared.types.Primitive.TheVariants.{Boolean, Char, Byte, Small, UnsignedSmall, Short, UnsignedShort, Long, UnsignedLong, Hyper, UnsignedHyper}
+use Rattle.nd_types.specs.declared.types.Primitive.TheVariants.{Boolean, Char, Byte, Small, UnsignedSmall, Short, UnsignedShort, Long, UnsignedLong, Hyper, UnsignedHyper, Letter}
 use Rattle.nd_types.specs.Number.{AreOctets, little, in_order, unsigned, digits, spelling, value_of_octets, as_signed, from_signed, written}
 use Rattle.nd_types.specs.Table.{width, in_range}
 
@@ -98,6 +98,7 @@ from_value order Long os h b = signed_4 (unsigned order os) b
 from_value order UnsignedLong os h b = refl
 from_value order Hyper os h b = signed_8 (unsigned order os) b
 from_value order UnsignedHyper os h b = refl
+from_value order Letter os h b = refl
 
 -- writing what was read gives the octets back
 pub write_after_read : (order : Order) (p : Primitive) (os : List ℕ) → p ≢ Boolean → length os ≡ width p → AreOctets os

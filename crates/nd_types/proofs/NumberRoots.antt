@@ -19,7 +19,7 @@ use Rattle.nd_types.specs.declared.types.Operation.{Operation}
 use Rattle.nd_types.specs.declared.types.Side.{Side}
 use Rattle.nd_types.specs.declared.types.Side.TheVariants as side
 use Rattle.nd_types.specs.Table.{Table, type_at}
-use Rattle.nd_types.specs.Kinds.{prim_number, pointee, pointee_by, is_pipe, is_nonencapsulated, is_conformant_array, is_conformant_text, is_varying_array}
+use Rattle.nd_types.specs.Kinds.{is_letter_prim, prim_number, pointee, pointee_by, is_pipe, is_nonencapsulated, is_conformant_array, is_conformant_text, is_varying_array}
 use Rattle.nd_types.specs.Fields.{FieldAt, fields_at, members_of, all_fields, param_fields, has_attr, has_size, has_range_attr, subject_type}
 use Rattle.nd_types.specs.Legal.{IsLegal, implies, is_switched}
 use Rattle.nd_types.specs.Roots.{Root, roots_of, params_from, result_root, pipe_referent, pipe_by, pipe_of, root_of, root_by, travels}
@@ -32,18 +32,18 @@ use Rattle.nd_types.proofs.LegalLaws.{passes_at, prim_at}
 too_large : (t : ℕ) → nat_lt t 11 ≡ true → 11 ≤ t → ⊥
 too_large t e high = let low = ltb-true t 11 e in absurd (omega (arith, low, high))
 
-primitive_by : (t : ℕ) → nat_lt t 11 ≡ true → (p : Primitive) × (t ≡ prim_number p)
-primitive_by zero e = (Boolean, refl)
-primitive_by (suc zero) e = (Char, refl)
-primitive_by (suc (suc zero)) e = (Byte, refl)
-primitive_by (suc (suc (suc zero))) e = (Small, refl)
-primitive_by (suc (suc (suc (suc zero)))) e = (UnsignedSmall, refl)
-primitive_by (suc (suc (suc (suc (suc zero))))) e = (Short, refl)
-primitive_by (suc (suc (suc (suc (suc (suc zero)))))) e = (UnsignedShort, refl)
-primitive_by (suc (suc (suc (suc (suc (suc (suc zero))))))) e = (Long, refl)
-primitive_by (suc (suc (suc (suc (suc (suc (suc (suc zero)))))))) e = (UnsignedLong, refl)
-primitive_by (suc (suc (suc (suc (suc (suc (suc (suc (suc zero))))))))) e = (Hyper, refl)
-primitive_by (suc (suc (suc (suc (suc (suc (suc (suc (suc (suc zero)))))))))) e = (UnsignedHyper, refl)
+primitive_by : (t : ℕ) → nat_lt t 11 ≡ true → (p : Primitive) × (t ≡ prim_number p) × (is_letter_prim p ≡ false)
+primitive_by zero e = (Boolean, refl, refl)
+primitive_by (suc zero) e = (Char, refl, refl)
+primitive_by (suc (suc zero)) e = (Byte, refl, refl)
+primitive_by (suc (suc (suc zero))) e = (Small, refl, refl)
+primitive_by (suc (suc (suc (suc zero)))) e = (UnsignedSmall, refl, refl)
+primitive_by (suc (suc (suc (suc (suc zero))))) e = (Short, refl, refl)
+primitive_by (suc (suc (suc (suc (suc (suc zero)))))) e = (UnsignedShort, refl, refl)
+primitive_by (suc (suc (suc (suc (suc (suc (suc zero))))))) e = (Long, refl, refl)
+primitive_by (suc (suc (suc (suc (suc (suc (suc (suc zero)))))))) e = (UnsignedLong, refl, refl)
+primitive_by (suc (suc (suc (suc (suc (suc (suc (suc (suc zero))))))))) e = (Hyper, refl, refl)
+primitive_by (suc (suc (suc (suc (suc (suc (suc (suc (suc (suc zero)))))))))) e = (UnsignedHyper, refl, refl)
 primitive_by (suc (suc (suc (suc (suc (suc (suc (suc (suc (suc (suc t))))))))))) e = absurd (too_large (suc (suc (suc (suc (suc (suc (suc (suc (suc (suc (suc t))))))))))) e (omega arith))
 
 -- ## Attributes
@@ -125,8 +125,8 @@ module _ (types : Table) (operations : List Operation) (n : ℕ) (o : Operation)
 
   is_prim : (t : ℕ) → nat_lt t 11 ≡ true → (p : Primitive) × (type_at types t ≡ Some (def.Prim p))
   is_prim t e =
-      let (p, is) = primitive_by t e in
-      (p, ap (type_at types) is ∙ prim_at types operations legal p)
+      let (p, is, other) = primitive_by t e in
+      (p, ap (type_at types) is ∙ prim_at types operations legal p other)
 
   referent_pipe : (to u : ℕ) (d : Option TypeDef) → type_at types to ≡ d → pipe_referent to d ≡ Some u → is_pipe (type_at types u) ≡ true
   referent_pipe to u (Some (def.Pipe elem)) e f =

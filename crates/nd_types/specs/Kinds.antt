@@ -1,15 +1,16 @@
 -- Kinds of types: tests of what a type number stands for.
 -- `t` is a type's number, `c` and `d` are types, `p` is a primitive.
 use Rattle.std.specs.Prelude.{ℕ, Bool, true, false, not, ◌==◌, ◌&&◌, [], ◌∷◌, Option, Some, None, is_none}
+use Rattle.std.specs.List.{list_any}
 use Rattle.nd_types.specs.declared.types.TypeDef.{TypeDef}
 use Rattle.nd_types.specs.declared.types.Primitive.{Primitive}
 use Rattle.nd_types.specs.declared.types.TypeDef.TheVariants.{Prim, Enum, Array, Text, Union, Pointer, Context, Pipe}
 use Rattle.nd_types.specs.declared.types.Primitive.TheVariants.{Boolean, Char, Byte, Small, UnsignedSmall, Short, UnsignedShort, Long, UnsignedLong}
-use Rattle.nd_types.specs.declared.types.Primitive.TheVariants.{Hyper, UnsignedHyper}
+use Rattle.nd_types.specs.declared.types.Primitive.TheVariants.{Hyper, UnsignedHyper, Letter}
 use Rattle.nd_types.specs.declared.types.Class.TheVariants.{Ref}
 use Rattle.nd_types.specs.Table.{Table, type_at}
 
--- the number of a primitive type in each table
+-- The number of a primitive. It is that of its type in each table, except that of a letter: a table has it where a file uses it.
 abbrev pub prim_number : Primitive → ℕ
 prim_number Boolean = 0
 prim_number Char = 1
@@ -22,12 +23,17 @@ prim_number Long = 7
 prim_number UnsignedLong = 8
 prim_number Hyper = 9
 prim_number UnsignedHyper = 10
+prim_number Letter = 11
+
+abbrev pub is_letter_prim : Primitive → Bool
+is_letter_prim Letter = true
+is_letter_prim _ = false
 
 -- the number of the context handle in each table
 abbrev pub context_number : ℕ
 context_number = 11
 
--- the types with which each table begins: the primitives and the context handle
+-- the types with which each table begins: the primitives except the letter, and the context handle
 abbrev pub basic_types : Table
 basic_types =
     Prim Boolean ∷ Prim Char ∷ Prim Byte ∷ Prim Small ∷ Prim UnsignedSmall ∷ Prim Short ∷ Prim UnsignedShort
@@ -35,7 +41,7 @@ basic_types =
 
 -- the number of a basic type
 abbrev pub basic_number : TypeDef → Option ℕ
-basic_number (Prim p) = Some (prim_number p)
+basic_number (Prim p) = elim (is_letter_prim p) [ true ↦ None | false ↦ Some (prim_number p) ]
 basic_number Context = Some context_number
 basic_number _ = None
 
@@ -57,6 +63,7 @@ abbrev pub is_integer_prim : Primitive → Bool
 is_integer_prim Boolean = false
 is_integer_prim Char = false
 is_integer_prim Byte = false
+is_integer_prim Letter = false
 is_integer_prim _ = true
 
 abbrev pub is_integer : Option TypeDef → Bool
@@ -66,6 +73,7 @@ is_integer _ = false
 -- a primitive type that a tag may have
 abbrev pub is_switch_prim : Primitive → Bool
 is_switch_prim Byte = false
+is_switch_prim Letter = false
 is_switch_prim _ = true
 
 -- an integer, char, boolean or enumerated type: what a tag may be
@@ -73,6 +81,15 @@ abbrev pub is_switch_type : Option TypeDef → Bool
 is_switch_type (Some (Prim p)) = is_switch_prim p
 is_switch_type (Some (Enum values)) = true
 is_switch_type _ = false
+
+-- a letter: a wide character, `wchar_t` of the windows language
+abbrev pub is_letter : Option TypeDef → Bool
+is_letter (Some (Prim p)) = is_letter_prim p
+is_letter _ = false
+
+-- a table with letters: only a file of the windows language has one
+abbrev pub has_letters : Table → Bool
+has_letters types = list_any (λ d. is_letter (Some d)) types
 
 abbrev pub is_array : Option TypeDef → Bool
 is_array (Some (Array elem bound varying)) = true

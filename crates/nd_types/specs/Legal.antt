@@ -254,7 +254,7 @@ has_names o = is_identifier o.name && list_all (λ p. is_identifier p.field.name
 
 -- a legal interface, by its table of types and its operations
 pub record IsLegal (types : Table) (operations : List Operation) : Type 0 where
-  -- The table begins with the primitives, each under its number, and the context handle, and has none of these later.
+  -- The table begins with the primitives except the letter, each under its number, and the context handle, and has none of these later.
   pub basic : starts_with is_same_basic types basic_types ≡ true
   pub no_later_basic : list_all (λ d. not (is_basic d)) (drop (length basic_types) types) ≡ true
   -- Each type number that a type, a parameter or a result has is one of the table. A handle_t parameter alone has HANDLE.

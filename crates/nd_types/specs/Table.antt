@@ -8,7 +8,7 @@ use Rattle.nd_types.specs.declared.types.Arm.{Arm}
 use Rattle.nd_types.specs.declared.types.TypeDef.TheVariants as def
 use Rattle.nd_types.specs.declared.types.Primitive as prims
 use Rattle.nd_types.specs.declared.types.Primitive.TheVariants.{Boolean, Char, Byte, Small, UnsignedSmall, Short, UnsignedShort, Long, UnsignedLong}
-use Rattle.nd_types.specs.declared.types.Primitive.TheVariants.{Hyper, UnsignedHyper}
+use Rattle.nd_types.specs.declared.types.Primitive.TheVariants.{Hyper, UnsignedHyper, Letter}
 
 -- the types by number
 abbrev pub Table : Type 0
@@ -31,6 +31,7 @@ width Long = 4
 width UnsignedLong = 4
 width Hyper = 8
 width UnsignedHyper = 8
+width Letter = 2
 
 -- whether a primitive has negative values
 abbrev pub is_signed : prims.Primitive → Bool
@@ -60,6 +61,7 @@ greatest Long = pos (2 ^ 31 - 1)
 greatest UnsignedLong = pos (2 ^ 32 - 1)
 greatest Hyper = pos (2 ^ 63 - 1)
 greatest UnsignedHyper = pos (2 ^ 64 - 1)
+greatest Letter = pos (2 ^ 16 - 1)
 
 -- a number is one that a primitive can hold
 abbrev pub in_range : prims.Primitive → ℤ → Bool

@@ -3,7 +3,7 @@ ghost use Rattle.std.specs.Prelude.{◌≡◌, ℕ, ℤ, List, length, Some, IsT
 ghost use Rattle.nd_base.specs.declared.octets.Order.{Order};
 ghost use Rattle.nd_types.specs.Table.{Table, type_at, width, in_range};
 ghost use Rattle.nd_types.specs.Number.{AreOctets, value_of_octets, written};
-ghost use Rattle.nd_types.specs.Kinds.{basic_types, prim_number};
+ghost use Rattle.nd_types.specs.Kinds.{basic_types, is_letter_prim, prim_number};
 ghost use Rattle.nd_types.specs.Layout.{align_of, align_by, hoists, hoists_by};
 ghost use Rattle.nd_types.specs.Legal.{IsLegal};
 ghost use Rattle.std.specs.Prelude.{suc, ◌+◌};
@@ -53,10 +53,10 @@ pub fn hoists_legal()
         (t : ℕ) → hoists types t ≡ hoists_by (hoists types) (type_at types t) }
 {}
 
-/// Each primitive type of a legal interface is under its number.
+/// Each primitive type of a legal interface is under its number, except the letter.
 pub fn prim_at()
     ensures { (types : Table) (operations : List Operation) → IsLegal types operations →
-        (p : Primitive) → type_at types (prim_number p) ≡ Some (Prim p) }
+        (p : Primitive) → is_letter_prim p ≡ false → type_at types (prim_number p) ≡ Some (Prim p) }
 {}
 
 /// Reading the octets that are written for a value of a primitive gives the value back.

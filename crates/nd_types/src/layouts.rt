@@ -160,7 +160,7 @@ fn width(prim: Prim) -> u8
 {
     match prim {
         Prim::Boolean | Prim::Char | Prim::Byte | Prim::Small | Prim::UnsignedSmall => 1,
-        Prim::Short | Prim::UnsignedShort => 2,
+        Prim::Short | Prim::UnsignedShort | Prim::Letter => 2,
         Prim::Long | Prim::UnsignedLong => 4,
         Prim::Hyper | Prim::UnsignedHyper => 8,
     }

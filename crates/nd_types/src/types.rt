@@ -4,8 +4,9 @@ use nd_base::Name;
 
 /// A primitive type of NDR (C706, 14.2).
 ///
-/// A boolean, char, byte or small has one octet, a short two, a long four and a hyper eight. Those without
-/// `Unsigned` in their name, from `Small` on, are signed.
+/// A boolean, char, byte or small has one octet, a short or a letter two, a long four and a hyper eight. Those without
+/// `Unsigned` in their name, from `Small` to `UnsignedHyper`, are signed. A letter, `wchar_t` of the windows language, has the
+/// octets of an unsigned short and is no basic type: a table has it where a file uses it.
 #[derive(Clone, Copy, Debug, PartialEq, Eq)]
 pub enum Primitive {
     Boolean,
@@ -19,6 +20,7 @@ pub enum Primitive {
     UnsignedLong,
     Hyper,
     UnsignedHyper,
+    Letter,
 }
 
 /// A primitive type. `Prim` itself is a name that the language keeps.

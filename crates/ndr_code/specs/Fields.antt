@@ -5,7 +5,7 @@ use Rattle.nd_types.specs.declared.types.Class.{Class}
 use Rattle.nd_types.specs.declared.types.Class.TheVariants.{Full}
 use Rattle.nd_types.specs.declared.types.Primitive.{Primitive}
 use Rattle.nd_types.specs.declared.types.Primitive.TheVariants.{Boolean, Char, Byte, Small, UnsignedSmall, Short, UnsignedShort, Long, UnsignedLong}
-use Rattle.nd_types.specs.declared.types.Primitive.TheVariants.{Hyper, UnsignedHyper}
+use Rattle.nd_types.specs.declared.types.Primitive.TheVariants.{Hyper, UnsignedHyper, Letter}
 use Rattle.nd_types.specs.declared.types.TypeId.{TypeId}
 use Rattle.ndr_code.specs.declared.instr.Instr.{Instr}
 use Rattle.ndr_code.specs.declared.instr.Instr.TheVariants as op
@@ -13,7 +13,7 @@ use Rattle.ndr_code.specs.declared.fields.Form.{Form}
 use Rattle.ndr_code.specs.declared.fields.Form.TheVariants as form
 use Rattle.ndr_code.specs.declared.fields.Field.{Field}
 
--- the primitive of a type's number
+-- the primitive of a type's number: no number but that of a letter is past those of the basic types
 abbrev pub prim_of : ℕ → Primitive
 prim_of n =
     if n == 0 then Boolean else (
@@ -26,7 +26,8 @@ prim_of n =
     if n == 7 then Long else (
     if n == 8 then UnsignedLong else (
     if n == 9 then Hyper else (
-    UnsignedHyper))))))))))
+    if n == 10 then UnsignedHyper else (
+    Letter)))))))))))
 
 -- a pointer that is not full
 abbrev pub pointer_form : Class → TypeId → ℕ → Option Form

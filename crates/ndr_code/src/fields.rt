@@ -107,7 +107,7 @@ fn pointer_form(class: Class, to: TypeId, run: u32) -> Option<Form>
     }
 }
 
-/// The primitive of a type's number. Takes no memory.
+/// The primitive of a type's number: no number but that of a letter is past those of the basic types. Takes no memory.
 #[inline(always)]
 pub fn prim_of(of: u32) -> Prim
     ensures { result ≡ primitive_of of }
@@ -123,6 +123,7 @@ pub fn prim_of(of: u32) -> Prim
         7 => Prim::Long,
         8 => Prim::UnsignedLong,
         9 => Prim::Hyper,
-        _ => Prim::UnsignedHyper,
+        10 => Prim::UnsignedHyper,
+        _ => Prim::Letter,
     }
 }

@@ -6,7 +6,7 @@ use Rattle.std.proofs.lemmas.Bool.{ltb-true, ltb-false}
 use Rattle.std.proofs.lemmas.List.{drop-drop, take-append-drop, length-map, append-nil, length-drop}
 use Rattle.nd_base.specs.declared.octets.Order.{Order}
 use Rattle.nd_types.specs.declared.types.Primitive.{Primitive}
-use Rattle.nd_types.specs.declared.types.Primitive.TheVariants.{Boolean, Char, Byte, Small, UnsignedSmall, Short, UnsignedShort, Long, UnsignedLong, Hyper, UnsignedHyper}
+use Rattle.nd_types.specs.declared.types.Primitive.TheVariants.{Boolean, Char, Byte, Small, UnsignedSmall, Short, UnsignedShort, Long, UnsignedLong, Hyper, UnsignedHyper, Letter}
 use Rattle.nd_types.specs.Table.{width}
 use Rattle.nd_types.specs.Number.{value_of_octets}
 use Rattle.nd_value.specs.Tree as tree
@@ -35,6 +35,7 @@ wide Long = inr (inr (inl refl))
 wide UnsignedLong = inr (inr (inl refl))
 wide Hyper = inr (inr (inr refl))
 wide UnsignedHyper = inr (inr (inr refl))
+wide Letter = inr (inl refl)
 
 greater_of : (a b : ℕ) (t : Bool) → ltb a b ≡ t → (max a b ≡ a) ⊎ (max a b ≡ b)
 greater_of a b true e = let l : a < b = ltb-true a b e in inr (omega (arith, l))

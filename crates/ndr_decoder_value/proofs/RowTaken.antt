@@ -7,7 +7,7 @@ use Rattle.nd_base.specs.declared.octets.Order.{Order}
 use Rattle.nd_base.specs.declared.TheConstants.{STREAM_LIMIT, PIECE}
 use Rattle.nd_base.specs.Over.{SourceOver}
 use Rattle.nd_types.specs.declared.types.Primitive.{Primitive}
-use Rattle.nd_types.specs.declared.types.Primitive.TheVariants.{Boolean, Char, Byte, Small, UnsignedSmall, Short, UnsignedShort, Long, UnsignedLong, Hyper, UnsignedHyper}
+use Rattle.nd_types.specs.declared.types.Primitive.TheVariants.{Boolean, Char, Byte, Small, UnsignedSmall, Short, UnsignedShort, Long, UnsignedLong, Hyper, UnsignedHyper, Letter}
 use Rattle.nd_types.specs.declared.types.TypeId.{TypeId}
 use Rattle.nd_types.specs.Number.{AreOctets}
 use Rattle.nd_types.specs.Table.{width}
@@ -99,6 +99,7 @@ few_numbers Long count h = omega (arith, h)
 few_numbers UnsignedLong count h = omega (arith, h)
 few_numbers Hyper count h = omega (arith, h)
 few_numbers UnsignedHyper count h = omega (arith, h)
+few_numbers Letter count h = omega (arith, h)
 
 -- ## What a turn comes to
 

@@ -9,7 +9,7 @@ use Rattle.nd_base.specs.declared.octets.Order.{Order}
 use Rattle.nd_base.specs.declared.TheConstants.{STREAM_LIMIT}
 use Rattle.nd_base.specs.Over.{SourceOver}
 use Rattle.nd_types.specs.declared.types.Primitive.{Primitive}
-use Rattle.nd_types.specs.declared.types.Primitive.TheVariants.{Boolean, Char, Byte, Small, UnsignedSmall, Short, UnsignedShort, Long, UnsignedLong, Hyper, UnsignedHyper}
+use Rattle.nd_types.specs.declared.types.Primitive.TheVariants.{Boolean, Char, Byte, Small, UnsignedSmall, Short, UnsignedShort, Long, UnsignedLong, Hyper, UnsignedHyper, Letter}
 use Rattle.nd_types.specs.declared.types.TypeId.{TypeId}
 use Rattle.nd_types.specs.Number.{AreOctets, value_of_octets}
 use Rattle.nd_types.specs.Table.{width}
@@ -55,6 +55,7 @@ whole_numbers Long n count h = record { fits = omega (arith, h); rest = omega (a
 whole_numbers UnsignedLong n count h = record { fits = omega (arith, h); rest = omega (arith, h); fewer = omega (arith, h); next = omega (arith, h) }
 whole_numbers Hyper n count h = record { fits = omega (arith, h); rest = omega (arith, h); fewer = omega (arith, h); next = omega (arith, h) }
 whole_numbers UnsignedHyper n count h = record { fits = omega (arith, h); rest = omega (arith, h); fewer = omega (arith, h); next = omega (arith, h) }
+whole_numbers Letter n count h = record { fits = omega (arith, h); rest = omega (arith, h); fewer = omega (arith, h); next = omega (arith, h) }
 
 -- as many numbers take as many octets
 pub scaled : (p : Primitive) (m count : ℕ) → m ≤ count → m * width p ≤ count * width p
@@ -69,6 +70,7 @@ scaled Long m count h = omega (arith, h)
 scaled UnsignedLong m count h = omega (arith, h)
 scaled Hyper m count h = omega (arith, h)
 scaled UnsignedHyper m count h = omega (arith, h)
+scaled Letter m count h = omega (arith, h)
 
 one_more : (p : Primitive) (m : ℕ) → suc m * width p ≡ width p + m * width p
 one_more Boolean m = omega arith
@@ -82,6 +84,7 @@ one_more Long m = omega arith
 one_more UnsignedLong m = omega arith
 one_more Hyper m = omega arith
 one_more UnsignedHyper m = omega arith
+one_more Letter m = omega arith
 
 octets_taken : (k : ℕ) (os : List ℕ) → AreOctets os → AreOctets (take k os)
 octets_taken zero os h = tt

@@ -8,7 +8,7 @@ use Rattle.nd_base.specs.declared.octets.Order.TheVariants.{Big, Little}
 use Rattle.nd_base.specs.contracts.octets.OrderPartialEq.TheImpl as is-order
 use Rattle.nd_types.specs.contracts.types.PrimitivePartialEq.TheImpl.{eq-value}
 use Rattle.nd_types.specs.declared.types.Primitive.{Primitive}
-use Rattle.nd_types.specs.declared.types.Primitive.TheVariants.{Boolean, Char, Byte, Small, UnsignedSmall, Short, UnsignedShort, Long, UnsignedLong, Hyper, UnsignedHyper}
+use Rattle.nd_types.specs.declared.types.Primitive.TheVariants.{Boolean, Char, Byte, Small, UnsignedSmall, Short, UnsignedShort, Long, UnsignedLong, Hyper, UnsignedHyper, Letter}
 use Rattle.nd_types.specs.Table.{width, in_range}
 use Rattle.nd_types.specs.Number.{AreOctets, value_of_octets, written}
 use Rattle.nd_types.proofs.NumberLaws.{write_after_read, written-length}
@@ -124,6 +124,7 @@ width_is Long = inr (inr (inl refl))
 width_is UnsignedLong = inr (inr (inl refl))
 width_is Hyper = inr (inr (inr refl))
 width_is UnsignedHyper = inr (inr (inr refl))
+width_is Letter = inr (inl refl)
 
 -- after a gap and a number there is no gap
 no_gap : (at w : ℕ) → IsWidth w → gap (at + gap at w + w) w ≡ 0

@@ -57,7 +57,7 @@ fn patterns_of(prim: Prim) -> i128
 {
     match prim {
         Prim::Boolean | Prim::Char | Prim::Byte | Prim::Small | Prim::UnsignedSmall => 1 << 8,
-        Prim::Short | Prim::UnsignedShort => 1 << 16,
+        Prim::Short | Prim::UnsignedShort | Prim::Letter => 1 << 16,
         Prim::Long | Prim::UnsignedLong => 1 << 32,
         Prim::Hyper | Prim::UnsignedHyper => 1 << 64,
     }

@@ -14,7 +14,7 @@ pub fn instr_at(code: &[Instr], at: usize) -> Option<Instr>
     code.get(at).copied()
 }
 
-/// The primitive in whose octets a number of a type is. Takes no memory.
+/// The primitive in whose octets a tag of a type is. Takes no memory.
 pub fn carrier_of(of: TypeId) -> Prim
     ensures { result ≡ carrier of.0 }
 {

@@ -5,9 +5,9 @@ ghost use Rattle.ndr_code.specs.declared.instr.Instr.TheVariants.{Ret};
 ghost use Rattle.ndr_encoder_output.specs.Structs.{members_of, member_gap, IsMember, IsMemberRun, IsNode, IsMemberCall, HasBegun, HasClosed};
 ghost use Rattle.ndr_encoder_output.specs.Structs.{HasEnded, IsStructRun};
 
-use crate::lookups::{carrier_of, instr_at, past_checks};
+use crate::lookups::{instr_at, past_checks};
 use nd_types::Prim;
-use ndr_code::Instr;
+use ndr_code::{Instr, prim_of};
 use ndr_prim::width_of;
 
 /// The most members that such a struct has.
@@ -74,7 +74,7 @@ fn member_in(instr: &Option<Instr>) -> Option<Member>
 {
     match instr {
         Some(Instr::Num { of }) => Some(Member::Number {
-            prim: carrier_of(*of),
+            prim: prim_of(of.0),
         }),
         Some(Instr::Enum { .. }) => Some(Member::Number { prim: Prim::Short }),
         Some(Instr::Pointer { run, .. }) => Some(Member::Pointer { run: *run }),

@@ -10,7 +10,7 @@ use Rattle.nd_types.specs.declared.types.TypeDef.TheVariants as def
 use Rattle.nd_types.specs.declared.types.Arm.{Arm}
 use Rattle.nd_types.specs.declared.types.Field.{Field}
 use Rattle.nd_types.specs.declared.types.Primitive.{Primitive}
-use Rattle.nd_types.specs.declared.types.Primitive.TheVariants.{Boolean, Char, Byte, Small, UnsignedSmall, Short, UnsignedShort, Long, UnsignedLong, Hyper, UnsignedHyper}
+use Rattle.nd_types.specs.declared.types.Primitive.TheVariants.{Boolean, Char, Byte, Small, UnsignedSmall, Short, UnsignedShort, Long, UnsignedLong, Hyper, UnsignedHyper, Letter}
 use Rattle.nd_types.specs.declared.types.Operation.{Operation}
 use Rattle.nd_types.specs.Table.{Table, type_at, width, carrier, fits_octets}
 use Rattle.nd_types.specs.Layout.{align_of, align_by, align_within, largest, at_least_4, tag_width, arm_types, default_type}
@@ -57,6 +57,7 @@ width_fits Long = (omega arith, omega arith)
 width_fits UnsignedLong = (omega arith, omega arith)
 width_fits Hyper = (omega arith, omega arith)
 width_fits UnsignedHyper = (omega arith, omega arith)
+width_fits Letter = (omega arith, omega arith)
 
 max_fits : (a b : ℕ) → IsAlignment a → IsAlignment b → IsAlignment (max a b)
 max_fits a b h k = let (p, q) = h in let (r, s) = k in (omega (arith, p, q, r, s), omega (arith, p, q, r, s))

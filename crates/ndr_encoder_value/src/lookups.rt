@@ -5,8 +5,8 @@ ghost use Rattle.ndr_encoder_laws.specs.written.Run.{target, num_type, is_ret as
 ghost use Rattle.ndr_code.specs.declared.instr.Instr.TheVariants.{Align};
 
 use nd_types::{Prim, TypeId};
-use ndr_code::Instr;
-use ndr_encoder_output::{carrier_of, instr_at};
+use ndr_code::{Instr, prim_of};
+use ndr_encoder_output::instr_at;
 use ndr_prim::width_of;
 
 // The address at which an instruction among the arms of a union ends the search for a tag; None where the next one is to be asked.
@@ -67,7 +67,7 @@ fn row_after(to: u8, number: &Option<Instr>, end: &Option<Instr>) -> Option<Prim
     if !is_ret(end) {
         return None;
     }
-    let prim = carrier_of(of);
+    let prim = prim_of(of.0);
     if to as usize != width_of(prim) {
         return None;
     }

@@ -8,8 +8,8 @@ ghost use Rattle.ndr_encoder_value.specs.Elements.{EndsMember, IsMemberRun as Is
 ghost use Rattle.ndr_encoder_value.specs.Elements.{IsArrayRun};
 
 use nd_types::Prim;
-use ndr_code::Instr;
-use ndr_encoder_output::{Member, StructRun, carrier_of};
+use ndr_code::{Instr, prim_of};
+use ndr_encoder_output::{Member, StructRun};
 use ndr_prim::width_of;
 
 // Whether a run ends at an address.
@@ -89,7 +89,7 @@ fn is_number(code: &[Instr], at: usize, prim: Prim) -> bool
     ensures { result ≡ true → IsMember (slice_get code.now at) (Number prim) }
 {
     match code.get(at) {
-        Some(Instr::Num { of }) => carrier_of(*of) == prim,
+        Some(Instr::Num { of }) => prim_of(of.0) == prim,
         Some(Instr::Enum { of: _of }) => prim == Prim::Short,
         _ => false,
     }

@@ -15,7 +15,7 @@ use crate::nodes::{next_cell, next_node, next_number, octets_of, tag_of};
 use nd_base::Memory;
 use nd_flat::{Seen, Walk};
 use nd_types::Prim;
-use ndr_code::Instr;
+use ndr_code::{Instr, prim_of};
 use ndr_encoder_laws::{Frame, Frames};
 use ndr_encoder_output::{Output, carrier_of, instr_at, past_checks};
 
@@ -207,7 +207,7 @@ fn one<O: Output>(
         Instr::Check { .. } => Ok(pass_checks(run.code, pc)),
         Instr::Record { .. } => Ok(skip(walk)),
         Instr::Align { to } => Ok(gap(to, out)),
-        Instr::Num { of } => Ok(number(carrier_of(of), walk, out)),
+        Instr::Num { of } => Ok(number(prim_of(of.0), walk, out)),
         Instr::Enum { .. } => Ok(number(Prim::Short, walk, out)),
         Instr::Text { .. } => Ok(text(walk, out)),
         Instr::Context => Ok(handle(walk, out)),

@@ -16,7 +16,7 @@ pub fn width_of(prim: Prim) -> usize
 {
     match prim {
         Prim::Boolean | Prim::Char | Prim::Byte | Prim::Small | Prim::UnsignedSmall => 1,
-        Prim::Short | Prim::UnsignedShort => 2,
+        Prim::Short | Prim::UnsignedShort | Prim::Letter => 2,
         Prim::Long | Prim::UnsignedLong => 4,
         Prim::Hyper | Prim::UnsignedHyper => 8,
     }
@@ -28,7 +28,7 @@ fn patterns_of(prim: Prim) -> i128
 {
     match prim {
         Prim::Boolean | Prim::Char | Prim::Byte | Prim::Small | Prim::UnsignedSmall => 1 << 8,
-        Prim::Short | Prim::UnsignedShort => 1 << 16,
+        Prim::Short | Prim::UnsignedShort | Prim::Letter => 1 << 16,
         Prim::Long | Prim::UnsignedLong => 1 << 32,
         Prim::Hyper | Prim::UnsignedHyper => 1 << 64,
     }
@@ -153,7 +153,8 @@ pub fn read_num(order: Order, prim: Prim, from: &[u8]) -> i128
         | Prim::UnsignedSmall
         | Prim::UnsignedShort
         | Prim::UnsignedLong
-        | Prim::UnsignedHyper => i128::from(number),
+        | Prim::UnsignedHyper
+        | Prim::Letter => i128::from(number),
     }
 }
 

@@ -26,7 +26,8 @@ fn least(prim: Prim) -> i128
         | Prim::UnsignedSmall
         | Prim::UnsignedShort
         | Prim::UnsignedLong
-        | Prim::UnsignedHyper => 0,
+        | Prim::UnsignedHyper
+        | Prim::Letter => 0,
     }
 }
 
@@ -39,7 +40,7 @@ fn greatest(prim: Prim) -> i128
         Prim::Char | Prim::Byte | Prim::UnsignedSmall => 0xff,
         Prim::Small => 0x7f,
         Prim::Short => 0x7fff,
-        Prim::UnsignedShort => 0xffff,
+        Prim::UnsignedShort | Prim::Letter => 0xffff,
         Prim::Long => 0x7fff_ffff,
         Prim::UnsignedLong => 0xffff_ffff,
         Prim::Hyper => 0x7fff_ffff_ffff_ffff,

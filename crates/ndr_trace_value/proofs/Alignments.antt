@@ -3,7 +3,7 @@
 use Rattle.std.proofs.Common.{ℕ, ◌+◌, ◌<◌, ◌≤◌, zero, suc, true, false, Bool, List, [], ◌∷◌, ◌++◌, map, max, Option, Some, None, arith}
 use Rattle.std.proofs.Math.Nat.{le-max_right}
 use Rattle.nd_types.specs.declared.types.Primitive.{Primitive}
-use Rattle.nd_types.specs.declared.types.Primitive.TheVariants.{Boolean, Byte, Char, Hyper, Long, Short, Small, UnsignedHyper, UnsignedLong, UnsignedShort, UnsignedSmall}
+use Rattle.nd_types.specs.declared.types.Primitive.TheVariants.{Boolean, Byte, Char, Hyper, Long, Short, Small, UnsignedHyper, Letter, UnsignedLong, UnsignedShort, UnsignedSmall}
 use Rattle.nd_types.specs.declared.types.TypeDef.{TypeDef}
 use Rattle.nd_types.specs.declared.types.TypeDef.TheVariants as def
 use Rattle.nd_types.specs.Layout.{align_by, align_of, align_within, arm_types, at_least_4, default_type, largest, tag_width}
@@ -21,6 +21,7 @@ some_width Long = omega arith
 some_width UnsignedLong = omega arith
 some_width Hyper = omega arith
 some_width UnsignedHyper = omega arith
+some_width Letter = omega arith
 
 some_largest : (ns : List ℕ) → 0 < largest ns
 some_largest [] = omega arith

@@ -11,7 +11,7 @@ use Rattle.nd_types.specs.declared.types.TypeDef.{TypeDef}
 use Rattle.nd_types.specs.declared.types.TypeDef.TheVariants as def
 use Rattle.nd_types.specs.declared.types.Arm.{Arm}
 use Rattle.nd_types.specs.declared.types.Primitive.{Primitive}
-use Rattle.nd_types.specs.declared.types.Primitive.TheVariants.{Boolean, Char, Byte, Small, UnsignedSmall, Short, UnsignedShort, Long, UnsignedLong, Hyper, UnsignedHyper}
+use Rattle.nd_types.specs.declared.types.Primitive.TheVariants.{Boolean, Char, Byte, Small, UnsignedSmall, Short, UnsignedShort, Long, UnsignedLong, Hyper, UnsignedHyper, Letter}
 use Rattle.nd_types.specs.declared.TheConstants.{ENUMERATOR_LIMIT}
 use Rattle.nd_types.specs.Table.{Table, type_at, in_range, is_value, selected}
 use Rattle.nd_types.specs.Legal.{has_small_values}
@@ -54,6 +54,7 @@ primitive_short Long z h = signed_short (2 ^ 31 - 1) (2 ^ 31 - 1) z (lit< tt) (l
 primitive_short UnsignedLong z h = unsigned_short (2 ^ 32 - 1) z (lit< tt) h
 primitive_short Hyper z h = signed_short (2 ^ 63 - 1) (2 ^ 63 - 1) z (lit< tt) (lit< tt) h
 primitive_short UnsignedHyper z h = unsigned_short (2 ^ 64 - 1) z (lit< tt) h
+primitive_short Letter z h = unsigned_short (2 ^ 16 - 1) z (lit< tt) h
 
 enumerated_short : (vs : List ℤ) (z : ℤ) → list_all (λ v. int_le (pos 0) v && int_le v (pos ENUMERATOR_LIMIT)) vs ≡ true → list_any (int_eq z) vs ≡ true → unsigned_abs z < 10 ^ 20
 enumerated_short [] z h a = cc

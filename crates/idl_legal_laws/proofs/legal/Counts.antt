@@ -376,6 +376,7 @@ octet_number s (Basic primitive.Long) m h = absurd (let e : false ≡ true = h i
 octet_number s (Basic primitive.UnsignedLong) m h = absurd (let e : false ≡ true = h in cc)
 octet_number s (Basic primitive.Hyper) m h = absurd (let e : false ≡ true = h in cc)
 octet_number s (Basic primitive.UnsignedHyper) m h = absurd (let e : false ≡ true = h in cc)
+octet_number s (Basic primitive.Letter) m h = absurd (let e : false ≡ true = h in cc)
 octet_number s (Array t n v) m h = absurd (let e : false ≡ true = h in cc)
 octet_number s (Text t n) m h = absurd (let e : false ≡ true = h in cc)
 octet_number s (Pointer c t) m h = absurd (let e : false ≡ true = h in cc)

@@ -13,7 +13,7 @@ use Rattle.nd_types.specs.declared.types.TypeDef.TheVariants as def
 use Rattle.nd_types.specs.declared.types.Class.{Class}
 use Rattle.nd_types.specs.declared.types.Class.TheVariants.{Ref, Unique, Full}
 use Rattle.nd_types.specs.declared.types.Primitive.{Primitive}
-use Rattle.nd_types.specs.declared.types.Primitive.TheVariants.{Boolean, Char, Byte, Small, UnsignedSmall, Short, UnsignedShort, Long, UnsignedLong, Hyper, UnsignedHyper}
+use Rattle.nd_types.specs.declared.types.Primitive.TheVariants.{Boolean, Char, Byte, Small, UnsignedSmall, Short, UnsignedShort, Long, UnsignedLong, Hyper, UnsignedHyper, Letter}
 use Rattle.nd_types.specs.Table.{Table, type_at, width}
 use Rattle.nd_types.specs.Layout.{hoists, align_of, align_within, align_by, largest, at_least_4, tag_width, arm_types, default_type}
 use Rattle.nd_value.specs.declared.item.Home.{Home}
@@ -49,6 +49,7 @@ width_aligns Long = inr (inr (inl refl))
 width_aligns UnsignedLong = inr (inr (inl refl))
 width_aligns Hyper = inr (inr (inr refl))
 width_aligns UnsignedHyper = inr (inr (inr refl))
+width_aligns Letter = inr (inl refl)
 
 one_of_two : (m n : ℕ) → (max m n ≡ m) ⊎ (max m n ≡ n)
 one_of_two zero n = inr (omega arith)

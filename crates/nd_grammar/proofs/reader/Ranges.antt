@@ -6,7 +6,7 @@ use Rattle.std.specs.Prelude.{int_le}
 use Rattle.nd_base.specs.declared.octets.Order.{Order}
 use Rattle.nd_base.specs.declared.octets.Order.TheVariants.{Big, Little}
 use Rattle.nd_types.specs.declared.types.Primitive.{Primitive}
-use Rattle.nd_types.specs.declared.types.Primitive.TheVariants.{Boolean, Char, Byte, Small, UnsignedSmall, Short, UnsignedShort, Long, UnsignedLong, Hyper, UnsignedHyper}
+use Rattle.nd_types.specs.declared.types.Primitive.TheVariants.{Boolean, Char, Byte, Small, UnsignedSmall, Short, UnsignedShort, Long, UnsignedLong, Hyper, UnsignedHyper, Letter}
 use Rattle.nd_types.specs.Table.{width, in_range}
 use Rattle.nd_types.specs.Number.{AreOctets, unsigned, value_of_octets, as_signed, truth}
 
@@ -76,6 +76,7 @@ value_in_range order Long os e h = signed_4 (unsigned order os) (below_4 order o
 value_in_range order UnsignedLong os e h = let b = below_4 order os e h in plain 4294967295 (unsigned order os) (omega arith)
 value_in_range order Hyper os e h = signed_8 (unsigned order os) (below_8 order os e h)
 value_in_range order UnsignedHyper os e h = let b = below_8 order os e h in plain 18446744073709551615 (unsigned order os) (omega arith)
+value_in_range order Letter os e h = let b = below_2 order os e h in plain 65535 (unsigned order os) (omega arith)
 
 pub drop_octets : (n : ℕ) (os : List ℕ) → AreOctets os → AreOctets (drop n os)
 drop_octets zero os h = h

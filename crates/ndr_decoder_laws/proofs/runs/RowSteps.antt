@@ -7,7 +7,7 @@ use Rattle.std.proofs.Math.Path.{subst₃}
 use Rattle.nd_base.specs.declared.octets.Order.{Order}
 use Rattle.nd_base.specs.declared.TheConstants.{STREAM_LIMIT}
 use Rattle.nd_types.specs.declared.types.Primitive.{Primitive}
-use Rattle.nd_types.specs.declared.types.Primitive.TheVariants.{Boolean, Char, Byte, Small, UnsignedSmall, Short, UnsignedShort, Long, UnsignedLong, Hyper, UnsignedHyper}
+use Rattle.nd_types.specs.declared.types.Primitive.TheVariants.{Boolean, Char, Byte, Small, UnsignedSmall, Short, UnsignedShort, Long, UnsignedLong, Hyper, UnsignedHyper, Letter}
 use Rattle.nd_types.specs.declared.types.TypeId.{TypeId}
 use Rattle.nd_types.specs.Number.{AreOctets, value_of_octets}
 use Rattle.nd_types.specs.Table.{width}
@@ -57,6 +57,7 @@ still_aligned Long a e = omega (arith, e)
 still_aligned UnsignedLong a e = omega (arith, e)
 still_aligned Hyper a e = omega (arith, e)
 still_aligned UnsignedHyper a e = omega (arith, e)
+still_aligned Letter a e = omega (arith, e)
 
 still_aligned_after : (p : Primitive) (n a : ℕ) → a % width p ≡ 0 → (a + n * width p) % width p ≡ 0
 still_aligned_after p zero a e = let z : a + 0 * width p ≡ a = omega arith in ap (λ k. k % width p) z ∙ e
@@ -77,6 +78,7 @@ no_gap Long a e = omega (arith, e)
 no_gap UnsignedLong a e = omega (arith, e)
 no_gap Hyper a e = omega (arith, e)
 no_gap UnsignedHyper a e = omega (arith, e)
+no_gap Letter a e = omega (arith, e)
 
 -- ## States
 

@@ -32,11 +32,10 @@ use Rattle.ndr_decoder_laws.specs.reader.Points.{Point, hoisting, counting, call
 use Rattle.ndr_decoder_laws.proofs.reader.Fetched.{long_refused, cut_refused}
 use Rattle.ndr_decoder_laws.specs.steps.Spots.{IsFine, IsFormed, IsPlanned, Spot, FitsAt, ChecksLeft, no_check, at_member, AtEnd, at_ret, at_void, rest_run, body_run}
 use Rattle.ndr_decoder_laws.specs.steps.Steps.{State, begun, gap_read, Want, no_octets, gap_of, item_of, wants, hoist_want, text_want}
-use Rattle.ndr_code.specs.Fields.{prim_of}
 use Rattle.ndr_decoder_laws.specs.steps.Good.{Good, IsCut, IsTooLong, phase_at}
 use Rattle.std.proofs.lemmas.Bool.{le-ltb as no_less, lt-ltb as less_is}
 use Rattle.ndr_decoder_laws.proofs.steps.Adding.{Stops}
-use Rattle.ndr_decoder_laws.proofs.steps.NumberSteps.{prim_back, gap_next, number_next, context_next}
+use Rattle.ndr_decoder_laws.proofs.steps.NumberSteps.{gap_next, number_next, context_next}
 use Rattle.ndr_decoder_laws.proofs.steps.VarySteps.{offset_next, count_next, text_offset_next, text_count_next, text_next}
 use Rattle.ndr_decoder_laws.proofs.steps.HoistSteps.{hoist_gap_next, hoist_count_next}
 use Rattle.ndr_decoder_laws.proofs.steps.UnionSteps.{form_is, tag_next}
@@ -81,7 +80,7 @@ module _ (order : Order) (fetched : List ℕ) (code : List Instr) (values : List
     opened_next (def.Prim p) et formed phase run rest =
         let c = planned.carried t p et in
         first_wants (op.Num (id t)) (op.Ret ∷ []) run
-        (subst (λ q. NextOf (item_of (width q))) (sym (ap prim_of c.1 ∙ prim_back p))
+        (subst (λ q. NextOf (item_of (width q))) (sym c.1)
         (record {
           entry = record { home = h; node = n; kind = Num p None (pos 0) };
           size = refl;

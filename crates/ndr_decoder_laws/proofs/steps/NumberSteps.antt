@@ -7,8 +7,6 @@ use Rattle.nd_base.specs.declared.TheConstants.{STREAM_LIMIT}
 use Rattle.nd_types.specs.declared.types.TypeDef.{TypeDef}
 use Rattle.nd_types.specs.declared.types.TypeDef.TheVariants as def
 use Rattle.nd_types.specs.declared.types.Primitive.{Primitive}
-use Rattle.nd_types.specs.declared.types.Primitive.TheVariants.{Boolean, Char, Byte, Small, UnsignedSmall, Short, UnsignedShort, Long, UnsignedLong, Hyper, UnsignedHyper}
-use Rattle.nd_types.specs.Kinds.{prim_number}
 use Rattle.nd_types.specs.Number.{unsigned, value_of_octets}
 use Rattle.nd_types.specs.Table.{Table, type_at, width}
 use Rattle.nd_value.specs.declared.item.Home.{Home}
@@ -33,26 +31,12 @@ use Rattle.ndr_decoder_laws.proofs.reader.FromPoint.{due_opens}
 use Rattle.ndr_decoder_laws.proofs.reader.HomePointers.{of_context}
 use Rattle.ndr_decoder_laws.specs.steps.Spots.{IsFine, IsDue, body_run, at_ret}
 use Rattle.ndr_decoder_laws.specs.steps.Steps.{State, Outcome, goes, refused, done_after, with_node, number_step}
-use Rattle.ndr_code.specs.Fields.{prim_of}
 use Rattle.ndr_decoder_laws.specs.steps.Good.{Told, IsRight, owed}
 use Rattle.ndr_decoder_laws.specs.steps.StepItems.{item_here, next_item, gap_items, number_items}
 use Rattle.ndr_decoder_laws.proofs.steps.Passing.{items_it, gap_noted, onward, silent, told_passed, judged, taken_it, lies_it}
 use Rattle.std.proofs.lemmas.Bool.{le-ltb as no_less}
 use Rattle.ndr_decoder_laws.proofs.steps.Arriving.{Within, parts_of, within_passed, plain_good}
 use Rattle.ndr_decoder_laws.proofs.steps.Adding.{leaf_good, none_found, no_pointer, stop_by, Stops}
-
-pub prim_back : (p : Primitive) → prim_of (prim_number p) ≡ p
-prim_back Boolean = refl
-prim_back Char = refl
-prim_back Byte = refl
-prim_back Small = refl
-prim_back UnsignedSmall = refl
-prim_back Short = refl
-prim_back UnsignedShort = refl
-prim_back Long = refl
-prim_back UnsignedLong = refl
-prim_back Hyper = refl
-prim_back UnsignedHyper = refl
 
 module _ (order : Order) (octets : List ℕ) (table : Table) (h : Home) (k m : ℕ) (fs : List Around) (n at : ℕ) (seen : List EntryAt) (names : Names) (target : Read) where
   pub number_next : (p : Primitive) (zs : Option (List ℤ)) → finish order octets table h m k fs (number_after order octets table h n p zs (going at seen) names) ≡ target

@@ -38,12 +38,11 @@ use Rattle.ndr_decoder_laws.proofs.reader.HomePointers.{of_number, of_enumerated
 use Rattle.nd_grammar.proofs.reader.ReaderPipes.{joined_count as count_joined}
 use Rattle.ndr_decoder_laws.specs.steps.Spots.{IsFine, IsFormed, IsPlanned, IsStruct, InsideAt, Spot, FitsAt, ChecksLeft, no_check, at_member, own_tests_of, AtEnd, at_ret, at_void, rest_run, body_run}
 use Rattle.ndr_decoder_laws.specs.steps.Steps.{State, Outcome, offset_read, count_read, wants, item_of, text_want, hoist_want, hoist_by, step, number_step, vary_by, text_by, limit_of, tag_step}
-use Rattle.ndr_code.specs.Fields.{prim_of}
 use Rattle.ndr_decoder_laws.specs.steps.StepItems.{step_items, number_items, vary_items, text_items, hoist_items, tag_items, arm_items}
 use Rattle.ndr_decoder_laws.specs.steps.Good.{Told, Good, IsRight, HasOctets, Holds, HasRegisters, OwnAt, BeginAt, members_at, owed, phase_at, half_at, unread_at}
 use Rattle.ndr_decoder_laws.proofs.steps.Arriving.{Within, KeptAll, KeptOwn, parts_of}
 use Rattle.ndr_decoder_laws.proofs.steps.Adding.{none_found}
-use Rattle.ndr_decoder_laws.proofs.steps.NumberSteps.{prim_back, gap_right, number_right, context_right}
+use Rattle.ndr_decoder_laws.proofs.steps.NumberSteps.{gap_right, number_right, context_right}
 use Rattle.ndr_decoder_laws.proofs.steps.StructSteps.{struct_right, call_right, close_right, shallower}
 use Rattle.ndr_decoder_laws.proofs.steps.ArraySteps.{elements_right}
 use Rattle.ndr_decoder_laws.proofs.steps.EndSteps.{end_right, back_right}
@@ -202,7 +201,7 @@ module _ (order : Order) (fetched os : List ℕ) (code : List Instr) (values : L
     opened_right (def.Prim p) et formed inner fine x =
         let c = planned.carried t p et in
         at_first (op.Num (id t)) (op.Ret ∷ []) x.spot.2
-        (subst (λ q. HasOctets (item_of (width q)) os s.at → Right (number_items order h os q s) (number_step values order os q None s)) (sym (ap prim_of c.1 ∙ prim_back p))
+        (subst (λ q. HasOctets (item_of (width q)) os s.at → Right (number_items order h os q s) (number_step values order os q None s)) (sym c.1)
         (λ o. number_right order fetched os code values table h own limit noted direct target s (suc k) fs seen names t (op.Num (id t)) p None w x.told
         (let r : length fetched ≡ s.at + 0 = x.reached in omega (arith, r)) x.spot.2
         (λ z. of_number table h t (length (nodes_around fs)) p z et) o.0 o.1 x.rest))

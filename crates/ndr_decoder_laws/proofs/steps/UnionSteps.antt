@@ -43,14 +43,12 @@ use Rattle.ndr_decoder_laws.proofs.reader.FromPoint.{tag_known}
 use Rattle.ndr_decoder_laws.proofs.reader.HomePointers.{of_union}
 use Rattle.ndr_decoder_laws.specs.steps.Spots.{IsFine, IsPlanned, in_union, at_void}
 use Rattle.ndr_decoder_laws.specs.steps.Steps.{State, Outcome, goes, refused, begun, next, with_tag, arm_taken, tag_step, tag_form, form_by, tag_at}
-use Rattle.ndr_code.specs.Fields.{prim_of}
 use Rattle.ndr_decoder_laws.specs.steps.Good.{Told, Good, HeldTag, IsRight, owed, members_around}
 use Rattle.ndr_decoder_laws.specs.steps.StepItems.{item_here, tag_items, arm_items}
 use Rattle.ndr_decoder_laws.proofs.steps.Passing.{items_it, own_items, onward, later_node, told_counted, told_longer, judged, taken_it, other_eqb', Change, Lies}
 use Rattle.std.proofs.lemmas.Bool.{le-ltb as no_less}
 use Rattle.ndr_decoder_laws.proofs.steps.Arriving.{Within, parts_of, within_passed, plain_good, arrives}
 use Rattle.ndr_decoder_laws.proofs.steps.Adding.{added, leaf_good, none_found, told_node, no_pointer, stop_by, Stops}
-use Rattle.ndr_decoder_laws.proofs.steps.NumberSteps.{prim_back}
 use Rattle.ndr_decoder_laws.proofs.steps.StructSteps.{deeper}
 
 -- ## The form of a tag
@@ -60,7 +58,7 @@ pub form_is : (code : List Instr) (values : List EnumList) (table : Table) (tag 
     → tag_form values tag ≡ form
 form_is code values table tag form planned (Some (def.Prim p)) e i =
     let c = planned.carried tag.0 p e in
-    ap (form_by tag.0) c.0 ∙ ap (λ q. record { prim = q; values = None }) (ap prim_of c.1 ∙ prim_back p) ∙ sym i
+    ap (form_by tag.0) c.0 ∙ ap (λ q. record { prim = q; values = None }) c.1 ∙ sym i
 form_is code values table tag form planned (Some (def.Enum zs)) e i = ap (form_by tag.0) (planned.enumerated tag.0 zs e) ∙ sym i
 form_is code values table tag form planned (Some (def.Struct members)) e i = absurd i
 form_is code values table tag form planned (Some (def.Array elem bound varying)) e i = absurd i

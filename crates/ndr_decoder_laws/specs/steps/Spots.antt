@@ -12,7 +12,6 @@ use Rattle.nd_types.specs.declared.types.Field.{Field}
 use Rattle.nd_types.specs.declared.types.Primitive.{Primitive}
 use Rattle.nd_types.specs.Table.{Table, type_at, selected}
 use Rattle.nd_types.specs.Layout.{parts}
-use Rattle.nd_types.specs.Kinds.{prim_number}
 use Rattle.nd_value.specs.declared.item.Home.{Home}
 use Rattle.nd_value.specs.Agreement.{Agreement, member_agreements}
 use Rattle.nd_value.specs.Nodes.{selected_types}
@@ -20,6 +19,7 @@ use Rattle.nd_value.specs.Tree as tree
 use Rattle.nd_value.specs.Tree.{Tree, Trees, none, more, node, joined, count, is_pointer, node_count}
 use Rattle.nd_grammar.specs.Entry.{Entry, child_tests, own_tests}
 use Rattle.nd_grammar.specs.Reader.{bound_or, tree_nodes}
+use Rattle.ndr_code.specs.Fields.{prim_of}
 use Rattle.ndr_code.specs.declared.instr.Instr.{Instr}
 use Rattle.ndr_code.specs.declared.instr.Instr.TheVariants as op
 use Rattle.ndr_code.specs.Code.{place_at, whole_at, id, array_run, text_bound, struct_run, union_run, arms_code, default_code, member_calls}
@@ -57,13 +57,13 @@ IsFine table (suc n) t = IsDue (IsFine table n) table t
 -- ## The code
 
 -- The code and the lists of enumerators are those of a plan of this table: the place run of each type is at its address, an empty arm and a `ret` are
--- at address 0, each enumerated type has its list and a primitive none, and a primitive has its own number.
+-- at address 0, each enumerated type has its list and a primitive none, and a primitive is that of its number.
 pub record IsPlanned (code : List Instr) (values : List EnumList) (table : Table) : Type 0 where
   pub place : (t : ℕ) (d : TypeDef) → type_at table t ≡ Some d
       → IsRunAt code (place_at table t) (place_run (place_at table) (whole_at table) table t d)
   pub empty_arm : IsRunAt code 0 (op.Void ∷ op.Ret ∷ [])
   pub enumerated : (t : ℕ) (zs : List ℤ) → type_at table t ≡ Some (def.Enum zs) → enumerators values t ≡ Some zs
-  pub carried : (t : ℕ) (p : Primitive) → type_at table t ≡ Some (def.Prim p) → (enumerators values t ≡ None) × (t ≡ prim_number p)
+  pub carried : (t : ℕ) (p : Primitive) → type_at table t ≡ Some (def.Prim p) → (enumerators values t ≡ None) × (prim_of t ≡ p)
 
 -- ## Pointers
 

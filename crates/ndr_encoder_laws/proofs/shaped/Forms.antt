@@ -1,22 +1,19 @@
 -- Nodes that fit have the forms of their types.
-use Rattle.std.proofs.Common.{◌≡◌, ℕ, ◌+◌, zero, suc, ℤ, Bool, true, false, List, [], ◌∷◌, length, take, drop, Option, Some, None, refl, ap, sym, ◌∙◌, subst, arith}
-use Rattle.std.specs.Prelude.{not, ◌==◌}
-use Rattle.std.specs.List.{AllByRecursion, slice_get, list_all}
-use Rattle.std.proofs.lemmas.Option.{same_Some}
-use Rattle.std.proofs.lemmas.Bool.{eqb-true}
-use lib.Pointwise.{pointwise}
+use Rattle.std.proofs.Common.{◌≡◌, inl, inr, ℕ, zero, suc, ℤ, Bool, true, false, List, [], ◌∷◌, Option, Some, None, refl, ap, sym, ◌∙◌, subst}
+use Rattle.std.specs.List.{AllByRecursion}
+use Rattle.nd_types.specs.declared.types.TypeId.{TypeId}
 use Rattle.nd_types.specs.declared.types.Operation.{Operation}
 use Rattle.nd_types.specs.declared.types.Arm.{Arm}
 use Rattle.nd_types.specs.declared.types.TypeDef.{TypeDef}
 use Rattle.nd_types.specs.declared.types.TypeDef.TheVariants as def
 use Rattle.nd_types.specs.declared.types.Primitive.{Primitive}
-use Rattle.nd_types.specs.declared.types.Primitive.TheVariants.{Boolean, Char, Byte, Small, UnsignedSmall, Short, UnsignedShort, Long, UnsignedLong, Hyper, UnsignedHyper}
-use Rattle.nd_types.specs.Kinds.{prim_number, basic_types, basic_number, is_basic, is_same_basic}
-use Rattle.nd_types.specs.Legal.{IsLegal}
+use Rattle.nd_types.specs.declared.types.Primitive.TheVariants.{Boolean, Char, Byte, Small, UnsignedSmall, Short, UnsignedShort, Long, UnsignedLong, Hyper, UnsignedHyper, Letter}
+use Rattle.nd_types.specs.Kinds.{prim_number, is_letter_prim, is_switch_prim, is_switch_type}
+use Rattle.nd_types.specs.Legal.{IsLegal, has_switch_tag}
 use Rattle.nd_types.specs.Table.{Table, type_at, carrier, selected}
 use Rattle.nd_types.specs.Layout.{parts}
-use Rattle.nd_types.proofs.LegalLaws.{passes_at, prim_at}
-use Rattle.nd_lemmas.proofs.Booleans.{first_true as left_true, second_true as right_true}
+use Rattle.nd_types.proofs.LegalLaws.{passes_at, prim_at, IsNumberOf, number_in}
+use Rattle.nd_lemmas.proofs.Booleans.{first_true as left_true}
 use Rattle.nd_value.specs.declared.value.Graph.{Graph}
 use Rattle.nd_value.specs.Tree as tree
 use Rattle.nd_value.specs.Tree.{Trees, node, none, more, Label}
@@ -26,46 +23,28 @@ use Rattle.nd_value.specs.Misfit.{has_shape, has_arm, selects}
 use Rattle.nd_grammar.proofs.conforming.GoodTrees.{GoodTrees}
 use Rattle.nd_grammar.proofs.next.Mapped.{in_parts}
 use Rattle.nd_grammar.proofs.reader.ReaderInPlace.{Fine, Readable}
+use Rattle.ndr_code.specs.Fields.{prim_of}
+use Rattle.ndr_code.proofs.Prims.{prim_of_number}
 use Rattle.ndr_encoder_laws.specs.written.Run.{carrier_of}
 use Rattle.ndr_encoder_laws.specs.written.Shaped.{Form, form_num, form_enum, form_struct, form_array, form_text, form_union, form_pointer, form_context, TagType, tag_prim, tag_enum, Shaped}
 
--- two numbers are there and equal, as the types' definitions have it
-abbrev same_number : Option ℕ → Option ℕ → Bool
-same_number (Some m) (Some n) = m == n
-same_number _ _ = false
+carrier_back : (p : Primitive) → is_switch_prim p ≡ true → carrier_of (prim_number p) ≡ p
+carrier_back Boolean h = refl
+carrier_back Char h = refl
+carrier_back Byte h = refl
+carrier_back Small h = refl
+carrier_back UnsignedSmall h = refl
+carrier_back Short h = refl
+carrier_back UnsignedShort h = refl
+carrier_back Long h = refl
+carrier_back UnsignedLong h = refl
+carrier_back Hyper h = refl
+carrier_back UnsignedHyper h = refl
+carrier_back Letter h = absurd (let e : false ≡ true = h in cc)
 
--- these basic types have the numbers from k on
-abbrev AreNumbered : ℕ → Table → Type 0
-AreNumbered k [] = Unit {0}
-AreNumbered k (b ∷ bs) = (basic_number b ≡ Some k) × AreNumbered (suc k) bs
-
--- a table that begins with them, and has no basic type later, has each primitive at its number alone
-own_number : (k : ℕ) (bs types : Table) (i : ℕ) (p : Primitive) → AreNumbered k bs → pointwise is_same_basic bs (take (length bs) types) ≡ true
-    → list_all (λ d. not (is_basic d)) (drop (length bs) types) ≡ true → slice_get types i ≡ Some (def.Prim p) → k + i ≡ prim_number p
-own_number k [] [] i p n same gone at = cc
-own_number k [] (d ∷ ds) i p n same gone at =
-    let wrong : not (is_basic (def.Prim p)) ≡ true = passes_at (λ d. not (is_basic d)) (d ∷ ds) i (def.Prim p) gone at in cc
-own_number k (b ∷ bs) [] i p n same gone at = cc
-own_number k (b ∷ bs) (d ∷ ds) zero p n same gone at =
-    let one : is_same_basic b d ≡ true = left_true (is_same_basic b d) (pointwise is_same_basic bs (take (length bs) ds)) same in
-    let it : is_same_basic b (def.Prim p) ≡ true = subst (λ x. is_same_basic b x ≡ true) (same_Some d (def.Prim p) at) one in
-    let numbered : same_number (Some k) (Some (prim_number p)) ≡ true = subst (λ o. same_number o (Some (prim_number p)) ≡ true) n.0 it in
-    let e : k ≡ prim_number p = eqb-true k (prim_number p) numbered in omega (arith, e)
-own_number k (b ∷ bs) (d ∷ ds) (suc i) p n same gone at =
-    let e : suc k + i ≡ prim_number p = own_number (suc k) bs ds i p n.1 (right_true (is_same_basic b d) (pointwise is_same_basic bs (take (length bs) ds)) same) gone at in omega (arith, e)
-
-carrier_back : (p : Primitive) → carrier_of (prim_number p) ≡ p
-carrier_back Boolean = refl
-carrier_back Char = refl
-carrier_back Byte = refl
-carrier_back Small = refl
-carrier_back UnsignedSmall = refl
-carrier_back Short = refl
-carrier_back UnsignedShort = refl
-carrier_back Long = refl
-carrier_back UnsignedLong = refl
-carrier_back Hyper = refl
-carrier_back UnsignedHyper = refl
+letter_no_tag : (p : Primitive) → is_letter_prim p ≡ true → is_switch_prim p ≡ true → ⊥
+letter_no_tag Letter l h = let e : false ≡ true = h in cc
+letter_no_tag _ l h = let e : false ≡ true = l in cc
 
 -- an arm is selected
 arm_is : (o : Option Arm) → selects o ≡ true → (a : Arm) × (o ≡ Some a)
@@ -73,44 +52,55 @@ arm_is None h = cc
 arm_is (Some a) h = (a, refl)
 
 module _ (table : Table) (operations : List Operation) (legal : IsLegal table operations) where
-  carried : (t : ℕ) (p : Primitive) → type_at table t ≡ Some (def.Prim p) → carrier_of t ≡ p
-  carried t p is =
-      let z : 0 + t ≡ t = omega arith in
-      let e : 0 + t ≡ prim_number p =
-      own_number 0 basic_types table t p (refl, (refl, (refl, (refl, (refl, (refl, (refl, (refl, (refl, (refl, (refl, (refl, tt)))))))))))) legal.basic legal.no_later_basic is in
-      ap carrier_of (sym z ∙ e) ∙ carrier_back p
+  numbered : (t : ℕ) (p : Primitive) → type_at table t ≡ Some (def.Prim p) → IsNumberOf p t 12
+  numbered t p is = number_in table legal.basic legal.no_later_basic t p is
+
+  -- a number is of the primitive of its type's number
+  num_carried : (t : ℕ) (p : Primitive) → type_at table t ≡ Some (def.Prim p) → prim_of t ≡ p
+  num_carried t p is = prim_of_number t p (numbered t p is)
+
+  -- a tag is no letter, so its type is a basic one or an enumerated one
+  tag_carried : (t : ℕ) (p : Primitive) → is_switch_prim p ≡ true → IsNumberOf p t 12 → carrier_of t ≡ p
+  tag_carried t p tags (inl e) = ap carrier_of e ∙ carrier_back p tags
+  tag_carried t p tags (inr (l, m)) = absurd (letter_no_tag p l tags)
 
   -- the number of a primitive has no enumerated type
-  no_enum : (p : Primitive) (values : List ℤ) → type_at table (prim_number p) ≡ Some (def.Enum values) → ⊥
-  no_enum p values is = let h : Some (def.Prim p) ≡ Some (def.Enum values) = sym (prim_at table operations legal p) ∙ is in cc
+  no_enum : (p : Primitive) (values : List ℤ) → is_letter_prim p ≡ false → type_at table (prim_number p) ≡ Some (def.Enum values) → ⊥
+  no_enum p values other is = let h : Some (def.Prim p) ≡ Some (def.Enum values) = sym (prim_at table operations legal p other) ∙ is in cc
 
   enum_carried : (t : ℕ) (values : List ℤ) → type_at table t ≡ Some (def.Enum values) → carrier_of t ≡ Short
-  enum_carried zero values is = absurd (no_enum Boolean values is)
-  enum_carried (suc zero) values is = absurd (no_enum Char values is)
-  enum_carried (suc (suc zero)) values is = absurd (no_enum Byte values is)
-  enum_carried (suc (suc (suc zero))) values is = absurd (no_enum Small values is)
-  enum_carried (suc (suc (suc (suc zero)))) values is = absurd (no_enum UnsignedSmall values is)
+  enum_carried zero values is = absurd (no_enum Boolean values refl is)
+  enum_carried (suc zero) values is = absurd (no_enum Char values refl is)
+  enum_carried (suc (suc zero)) values is = absurd (no_enum Byte values refl is)
+  enum_carried (suc (suc (suc zero))) values is = absurd (no_enum Small values refl is)
+  enum_carried (suc (suc (suc (suc zero)))) values is = absurd (no_enum UnsignedSmall values refl is)
   enum_carried (suc (suc (suc (suc (suc zero))))) values is = refl
-  enum_carried (suc (suc (suc (suc (suc (suc zero)))))) values is = absurd (no_enum UnsignedShort values is)
-  enum_carried (suc (suc (suc (suc (suc (suc (suc zero))))))) values is = absurd (no_enum Long values is)
-  enum_carried (suc (suc (suc (suc (suc (suc (suc (suc zero)))))))) values is = absurd (no_enum UnsignedLong values is)
-  enum_carried (suc (suc (suc (suc (suc (suc (suc (suc (suc zero))))))))) values is = absurd (no_enum Hyper values is)
-  enum_carried (suc (suc (suc (suc (suc (suc (suc (suc (suc (suc zero)))))))))) values is = absurd (no_enum UnsignedHyper values is)
+  enum_carried (suc (suc (suc (suc (suc (suc zero)))))) values is = absurd (no_enum UnsignedShort values refl is)
+  enum_carried (suc (suc (suc (suc (suc (suc (suc zero))))))) values is = absurd (no_enum Long values refl is)
+  enum_carried (suc (suc (suc (suc (suc (suc (suc (suc zero)))))))) values is = absurd (no_enum UnsignedLong values refl is)
+  enum_carried (suc (suc (suc (suc (suc (suc (suc (suc (suc zero))))))))) values is = absurd (no_enum Hyper values refl is)
+  enum_carried (suc (suc (suc (suc (suc (suc (suc (suc (suc (suc zero)))))))))) values is = absurd (no_enum UnsignedHyper values refl is)
   enum_carried (suc (suc (suc (suc (suc (suc (suc (suc (suc (suc (suc t))))))))))) values is = refl
 
-  tag_by : (t : ℕ) (o : Option TypeDef) (p : Primitive) → type_at table t ≡ o → carrier o ≡ Some p → TagType table t
-  tag_by t (Some (def.Prim q)) p is e = tag_prim is (carried t q is)
-  tag_by t (Some (def.Enum values)) p is e = tag_enum is (enum_carried t values is)
-  tag_by t _ p is e = cc
+  tag_by : (t : ℕ) (o : Option TypeDef) (p : Primitive) → type_at table t ≡ o → carrier o ≡ Some p → is_switch_type o ≡ true → TagType table t
+  tag_by t (Some (def.Prim q)) p is e tags = tag_prim is (tag_carried t q tags (numbered t q is))
+  tag_by t (Some (def.Enum values)) p is e tags = tag_enum is (enum_carried t values is)
+  tag_by t _ p is e tags = cc
+
+  -- the tag of a union in a legal table
+  tag_of_union : (t : ℕ) (tag : TypeId) (own : Bool) (arms : List Arm) (default : Option Arm) → type_at table t ≡ Some (def.Union tag own arms default)
+      → is_switch_type (type_at table tag.0) ≡ true
+  tag_of_union t tag own arms default is =
+      left_true (is_switch_type (type_at table tag.0)) true (passes_at (has_switch_tag table) table t (def.Union tag own arms default) legal.tags is)
 
   form_by : (t : ℕ) (d : TypeDef) (l : Label) (ks : Trees) → type_at table t ≡ Some d → Fine table d → has_shape (Some d) l ks ≡ true → has_arm (Some d) l ≡ true → Form table t l ks
-  form_by t (def.Prim p) (tree.Num z) none is f s a = form_num is (carried t p is)
+  form_by t (def.Prim p) (tree.Num z) none is f s a = form_num is (num_carried t p is)
   form_by t (def.Enum values) (tree.Num z) none is f s a = form_enum is
   form_by t (def.Struct members) tree.Rec ks is f s a = form_struct is
   form_by t (def.Array elem bound varying) (tree.Arr max offset) ks is f s a = form_array is
   form_by t (def.Text elem bound) (tree.Text max os) none is f s a = form_text is
   form_by t (def.Union tag own arms default) (tree.Union v) ks is f s a =
-      let (b, chosen) = arm_is (selected arms default v) a in form_union b is (tag_by tag.0 (type_at table tag.0) f.0 refl f.1) chosen
+      let (b, chosen) = arm_is (selected arms default v) a in form_union b is (tag_by tag.0 (type_at table tag.0) f.0 refl f.1 (tag_of_union t tag own arms default is)) chosen
   form_by t (def.Pointer class to) (tree.Ptr c) none is f s a = form_pointer is
   form_by t def.Context (tree.Context attributes os) none is f s a = form_context is
   form_by t (def.Pipe elem) l ks is f s a = absurd f

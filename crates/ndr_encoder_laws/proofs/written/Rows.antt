@@ -12,6 +12,7 @@ use Rattle.nd_types.specs.Layout.{align_of}
 use Rattle.nd_value.specs.Tree as tree
 use Rattle.nd_value.specs.Tree.{Trees, node, none, more, count, Label, Flat, flat}
 use Rattle.nd_grammar.specs.Entry.{before_children}
+use Rattle.ndr_code.specs.Fields.{prim_of}
 use Rattle.ndr_code.specs.declared.instr.Instr.{Instr}
 use Rattle.ndr_code.specs.declared.instr.Instr.TheVariants as op
 use Rattle.ndr_code.specs.Code.{array_run, text_bound, whole_at, place_at, code_of, id, member_calls, member_checks, arms_code, default_code}
@@ -20,7 +21,7 @@ use Rattle.ndr_code.proofs.Runs.{first_at, next_at}
 use Rattle.ndr_code.proofs.TypeRuns.{place_run_at}
 use Rattle.ndr_encoder_laws.specs.pieces.Pieces.{number_pieces, row_pieces}
 use Rattle.ndr_encoder_laws.specs.pieces.Shown.{kinds_pieces, values_pieces}
-use Rattle.ndr_encoder_laws.specs.written.Run.{carrier_of, is_ret, row_of, row_at, numbers, after}
+use Rattle.ndr_encoder_laws.specs.written.Run.{is_ret, row_of, row_at, numbers, after}
 use Rattle.ndr_encoder_laws.specs.written.Shaped.{Form, form_num, form_enum, form_struct, form_array, form_text, form_union, form_pointer, form_context, Shaped}
 
 if_is : (b : Bool) (q p : Primitive) → elim b [ true ↦ Some q | false ↦ None ] ≡ Some p → q ≡ p
@@ -46,9 +47,9 @@ module _ (code : List Instr) (at : ℕ) (p : Primitive) (e : row_at code at ≡ 
   by_two i j is s =
       ap (λ o. row_of (Some i) o third) (sym (first_at code (at + 1) j is (next_at code at i (j ∷ is) s))) ∙ by_one i (j ∷ is) s
 
-  num_row : (b : Bool) (a t : ℕ) → IsRunAt code at (gapped b a (op.Num (id t) ∷ op.Ret ∷ [])) → carrier_of t ≡ p
-  num_row true a t s = if_is (is_ret second && 1 == width (carrier_of t)) (carrier_of t) p (by_one (op.Num (id t)) (op.Ret ∷ []) s)
-  num_row false a t s = if_is (is_ret third && a == width (carrier_of t)) (carrier_of t) p (by_two (op.Align a) (op.Num (id t)) (op.Ret ∷ []) s)
+  num_row : (b : Bool) (a t : ℕ) → IsRunAt code at (gapped b a (op.Num (id t) ∷ op.Ret ∷ [])) → prim_of t ≡ p
+  num_row true a t s = if_is (is_ret second && 1 == width (prim_of t)) (prim_of t) p (by_one (op.Num (id t)) (op.Ret ∷ []) s)
+  num_row false a t s = if_is (is_ret third && a == width (prim_of t)) (prim_of t) p (by_two (op.Align a) (op.Num (id t)) (op.Ret ∷ []) s)
 
   struct_row : (b : Bool) (a k : ℕ) (is : List Instr) → IsRunAt code at (gapped b a (op.Record k ∷ is)) → ⊥
   struct_row true a k is s = let h : None ≡ Some p = by_one (op.Record k) is s in cc
@@ -74,7 +75,7 @@ module _ (table : Table) (operations : List Operation) where
 
   row_one : (t : ℕ) (p : Primitive) → row_at C (place_at table t) ≡ Some p → {l : Label} {ks : Trees} → Form table t l ks → IsNumber table t p l ks
   row_one t p e (form_num {p = q} {z = z} is same) =
-      let carried : carrier_of t ≡ p = num_row C (place_at table t) p e (align_of table t == 1) (align_of table t) t (place_run_at table operations t (def.Prim q) is) in
+      let carried : prim_of t ≡ p = num_row C (place_at table t) p e (align_of table t == 1) (align_of table t) t (place_run_at table operations t (def.Prim q) is) in
       is_number (subst (λ D. kinds_pieces table (before_children table t D (tree.Num z) none) ≡ number_pieces p z) (sym is) (ap (λ r. number_pieces r z) (sym same ∙ carried)))
   row_one t p e (form_enum {values = values} is) =
       let h : None ≡ Some p = by_two C (place_at table t) p e (op.Align 2) (op.Enum (id t)) (op.Ret ∷ []) (place_run_at table operations t (def.Enum values) is) in cc

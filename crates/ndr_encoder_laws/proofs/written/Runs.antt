@@ -21,6 +21,7 @@ use Rattle.nd_value.specs.Tree as tree
 use Rattle.nd_value.specs.Tree.{Trees, node, none, more, count, node_count, Label, Flat, flat}
 use Rattle.nd_value.specs.Nodes.{child_types, selected_types}
 use Rattle.nd_grammar.specs.Entry.{before_children, tag_entries, hoisted, Align, Max}
+use Rattle.ndr_code.specs.Fields.{prim_of}
 use Rattle.ndr_code.specs.declared.instr.Instr.{Instr}
 use Rattle.ndr_code.specs.declared.instr.Instr.TheVariants as op
 use Rattle.ndr_code.specs.Code.{gap_run, arm_run, arms_code, default_code, member_calls, member_checks, field_checks, text_bound, whole_at, place_at, code_of, id}
@@ -231,7 +232,7 @@ module _ (table : Table) (operations : List Operation) (m K : ℕ) where
       ∙ ap₂ (λ u v. (u ++ (v ++ [])) ++ B) (sym a) (sym b)
       ∙ ap (λ q. (kinds_pieces table (before_children table t q l ks) ++ (values_pieces table (child_types q l ks) ks ++ [])) ++ B) (sym is)
 
-  num_runs : (d t : ℕ) (p : Primitive) (z : ℤ) → type_at table t ≡ Some (def.Prim p) → carrier_of t ≡ p → Runs C m K table d t (tree.Num z) none
+  num_runs : (d t : ℕ) (p : Primitive) (z : ℤ) → type_at table t ≡ Some (def.Prim p) → prim_of t ≡ p → Runs C m K table d t (tree.Num z) none
   num_runs d t p z is same =
       let A : ℕ = place_at table t in
       let w : ℕ = align_of table t in
@@ -242,7 +243,7 @@ module _ (table : Table) (operations : List Operation) (m K : ℕ) where
       let s2 : IsRunAt C (B + 1) (op.Ret ∷ []) = next_at C B (op.Num (id t)) (op.Ret ∷ []) s1 in
       record {
         reach = λ frames fs room.
-            let out : List Piece = Figure (carrier_of t) z ∷ [] in
+            let out : List Piece = Figure (prim_of t) z ∷ [] in
             let (j, few, r) = by_gap C m K w 2 A frames ((tree.Num z, 0) ∷ fs) T (λ n. out ++ back (run C m K n) C K frames fs) s
             (by_step C m K (op.Num (id t)) out 1 B (B + 1) frames frames ((tree.Num z, 0) ∷ fs) fs (λ n. back (run C m K n) C K frames fs)
             (first_at C B (op.Num (id t)) (op.Ret ∷ []) s1) (λ n. refl) (by_ret C m K (B + 1) frames fs (first_at C (B + 1) op.Ret [] s2))) in (

@@ -12,6 +12,7 @@ use Rattle.nd_types.specs.declared.types.Primitive.TheVariants.{Hyper, UnsignedH
 use Rattle.nd_types.specs.Table.{width}
 use Rattle.nd_value.specs.Tree as tree
 use Rattle.nd_value.specs.Tree.{Label, Flat, cell_in}
+use Rattle.ndr_code.specs.Fields.{prim_of}
 use Rattle.ndr_code.specs.declared.instr.Instr.{Instr}
 use Rattle.ndr_code.specs.declared.instr.Instr.TheVariants as op
 use Rattle.ndr_encoder_laws.specs.pieces.Pieces.{Piece, Gap, Figure, Name, Raw, Handle, four, row_pieces}
@@ -62,8 +63,8 @@ after (suc n) fs = after n (later fs)
 
 -- ## Code
 
--- The primitive in whose octets a number of a type is: the primitives have the numbers 0 to 10, and all other numbers are shorts, as enumerated
--- values are.
+-- The primitive in whose octets a tag of a type is: the primitives have the numbers 0 to 10, and all other tags are shorts, as enumerated values
+-- are. A letter is no tag.
 abbrev carrier_from : List Primitive → ℕ → Primitive
 carrier_from [] t = Short
 carrier_from (p ∷ ps) zero = p
@@ -96,7 +97,7 @@ is_ret _ = false
 
 abbrev row_if : ℕ → Option ℕ → Bool → Option Primitive
 row_if a None ends = None
-row_if a (Some t) ends = elim (ends && a == width (carrier_of t)) [ true ↦ Some (carrier_of t) | false ↦ None ]
+row_if a (Some t) ends = elim (ends && a == width (prim_of t)) [ true ↦ Some (prim_of t) | false ↦ None ]
 
 abbrev pub row_of : Option Instr → Option Instr → Option Instr → Option Primitive
 row_of (Some (op.Align a)) i j = row_if a (num_type i) (is_ret j)
@@ -149,7 +150,7 @@ stepped G code m k pc frames fs (Some op.Void) = G (pc + 1) frames fs
 stepped G code m k pc frames fs (Some op.Close) = G (pc + 1) frames fs
 stepped G code m k pc frames fs (Some (op.Check attr field var star)) = G (past_checks (drop (pc + 1) code) (pc + 1)) frames fs
 stepped G code m k pc frames fs (Some (op.Align n)) = Gap n ∷ G (pc + 1) frames fs
-stepped G code m k pc frames fs (Some (op.Num t)) = Figure (carrier_of t.0) (num_in (here fs).0) ∷ G (pc + 1) frames (later fs)
+stepped G code m k pc frames fs (Some (op.Num t)) = Figure (prim_of t.0) (num_in (here fs).0) ∷ G (pc + 1) frames (later fs)
 stepped G code m k pc frames fs (Some (op.Enum t)) = Figure Short (num_in (here fs).0) ∷ G (pc + 1) frames (later fs)
 stepped G code m k pc frames fs (Some (op.Record members)) = G (pc + 1) frames (later fs)
 stepped G code m k pc frames fs (Some (op.Fixed count run)) = elements G (row_at code run) (here fs).1 run (pc + 1) frames (later fs)

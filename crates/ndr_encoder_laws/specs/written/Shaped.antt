@@ -12,6 +12,7 @@ use Rattle.nd_types.specs.Table.{Table, type_at, selected}
 use Rattle.nd_value.specs.Tree as tree
 use Rattle.nd_value.specs.Tree.{Trees, node, none, more, Label}
 use Rattle.nd_value.specs.Nodes.{child_types}
+use Rattle.ndr_code.specs.Fields.{prim_of}
 use Rattle.ndr_encoder_laws.specs.written.Run.{carrier_of}
 
 -- the type of a tag, and the primitive in whose octets it is
@@ -21,7 +22,7 @@ pub data TagType (table : Table) : ℕ → Type 0 where
 
 -- a node has the form of its type
 pub data Form (table : Table) : ℕ → Label → Trees → Type 0 where
-  form_num : {t : ℕ} {p : Primitive} {z : ℤ} → type_at table t ≡ Some (def.Prim p) → carrier_of t ≡ p → Form table t (tree.Num z) none
+  form_num : {t : ℕ} {p : Primitive} {z : ℤ} → type_at table t ≡ Some (def.Prim p) → prim_of t ≡ p → Form table t (tree.Num z) none
   form_enum : {t : ℕ} {values : List ℤ} {z : ℤ} → type_at table t ≡ Some (def.Enum values) → Form table t (tree.Num z) none
   form_struct : {t : ℕ} {members : List Field} {ks : Trees} → type_at table t ≡ Some (def.Struct members) → Form table t tree.Rec ks
   form_array : {t : ℕ} {elem : TypeId} {bound : Option ℕ} {varying : Bool} {max offset : ℕ} {ks : Trees}

@@ -56,7 +56,7 @@ pub number-requires : goal.number-requires
 number-requires g c = (
   _,
   able_from g.O.Output.can g.O.Output.whole _ _ _
-      (ap (λ p. Figure p (num_in (here (flat c.args.walk.now)).0) ∷ c.requires.able.0 (c.requires.able.1 + 1) c.args.frames.now (later (flat c.args.walk.now))) (sym c.carrier_of.ensures))
+      (ap (λ p. Figure p (num_in (here (flat c.args.walk.now)).0) ∷ c.requires.able.0 (c.requires.able.1 + 1) c.args.frames.now (later (flat c.args.walk.now))) (sym c.prim_of.ensures))
       (able_arm g.O.Output.can g.O.Output.whole c.args.run.now.code.now c.args.run.now.max c.args.run.now.chunk c.requires.able.0 c.requires.able.1 c.args.frames.now
       (flat c.args.walk.now) c.args.out.now _ _ c.in-Num.is c.requires.able.3),
 )
@@ -66,7 +66,7 @@ returns-in-Num-clause-moved g c =
     λ G at e. arm g.O.Output.can g.O.Output.whole c.args.run.now.code.now c.args.run.now.max c.args.run.now.chunk G at c.args.frames.now
     (flat c.args.walk.now) _ _ _ _ _ _ _ c.in-Num.is c.number.ensures.on
     (moves_from g.O.Output.can g.O.Output.whole _ _ _ _ _
-    (ap (λ p. Figure p (num_in (here (flat c.args.walk.now)).0) ∷ G (at + 1) c.args.frames.now (later (flat c.args.walk.now))) (sym c.carrier_of.ensures)) (c.number.ensures.written _))
+    (ap (λ p. Figure p (num_in (here (flat c.args.walk.now)).0) ∷ G (at + 1) c.args.frames.now (later (flat c.args.walk.now))) (sym c.prim_of.ensures)) (c.number.ensures.written _))
     (same_rest G _ _ _ _ _ _ (e) (refl) (sym c.number.ensures.rest))
 
 pub number-requires-in-Enum : goal.number-requires-in-Enum
@@ -123,7 +123,7 @@ tag-requires g c = (
   able_from g.O.Output.can g.O.Output.whole _ _ _
       (ap (λ p. Figure p (tag_in (here (flat c.args.walk.now)).0)
       ∷ c.requires.able.0 (target (drop (c.requires.able.1 + 1) c.args.run.now.code.now) (tag_in (here (flat c.args.walk.now)).0)) c.args.frames.now (later (flat c.args.walk.now)))
-      (sym c.carrier_of-in-Tag.ensures))
+      (sym c.carrier_of.ensures))
       (able_arm g.O.Output.can g.O.Output.whole c.args.run.now.code.now c.args.run.now.max c.args.run.now.chunk c.requires.able.0 c.requires.able.1 c.args.frames.now
       (flat c.args.walk.now) c.args.out.now _ _ c.in-Tag.is c.requires.able.3),
 )
@@ -134,7 +134,7 @@ returns-in-Tag-clause-moved g c =
     (flat c.args.walk.now) _ _ _ _ _ _ _ c.in-Tag.is c.tag.ensures.on
     (moves_from g.O.Output.can g.O.Output.whole _ _ _ _ _
     (ap (λ p. Figure p (tag_in (here (flat c.args.walk.now)).0)
-    ∷ G (target (drop (at + 1) c.args.run.now.code.now) (tag_in (here (flat c.args.walk.now)).0)) c.args.frames.now (later (flat c.args.walk.now))) (sym c.carrier_of-in-Tag.ensures))
+    ∷ G (target (drop (at + 1) c.args.run.now.code.now) (tag_in (here (flat c.args.walk.now)).0)) c.args.frames.now (later (flat c.args.walk.now))) (sym c.carrier_of.ensures))
     (c.tag.ensures.written _))
     (same_rest G _ _ _ _ _ _ (ap (λ p. target (drop p c.args.run.now.code.now) (tag_in (here (flat c.args.walk.now)).0)) e ∙ sym c.tag.ensures.pc) (refl) (sym c.tag.ensures.rest))
 
