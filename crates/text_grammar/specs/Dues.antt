@@ -9,6 +9,7 @@ use Rattle.nd_types.specs.declared.types.TypeDef.{TypeDef}
 use Rattle.nd_types.specs.declared.types.TypeDef.TheVariants as def
 use Rattle.nd_types.specs.declared.types.Arm.{Arm}
 use Rattle.nd_types.specs.declared.types.Param.{Param}
+use Rattle.nd_types.specs.Kinds.{has_letters}
 use Rattle.nd_types.specs.Table.{Table, type_at, selected}
 use Rattle.nd_types.specs.Roots.{Root}
 use Rattle.nd_value.specs.Setting.{Setting, root_list}
@@ -18,21 +19,22 @@ use Rattle.text_grammar.specs.declared.version.Version.{Version}
 use Rattle.text_grammar.specs.declared.version.Version.TheVariants as version
 use Rattle.text_grammar.specs.declared.fault.TextReason.{TextReason}
 use Rattle.text_grammar.specs.declared.fault.TextReason.TheVariants as reason
-use Rattle.text_grammar.specs.Tokens.{Token, Word, Number, Cell, Str, Bytes, Uuid, Mark}
-use Rattle.text_grammar.specs.Written.{Piece, Name, Other, word, equals, colon, comma, side_word, root_name, writes_octets}
+use Rattle.text_grammar.specs.Tokens.{Token, Word, Number, Cell, Str, Bytes, Letters, Uuid, Mark}
+use Rattle.text_grammar.specs.Written.{Piece, Name, Other, word, equals, colon, comma, side_word, root_name, ListForm, InBrackets, AsBytes, AsLetters, list_form}
 
 -- ## Dues
 
 pub data Due : Type 0 where
   -- this name, word or mark
   This : (p : Piece) → Due
-  -- the number of a version
-  AVersion : Due
-  -- any number; a count or attributes; a string; bytes; a UUID
+  -- the number of a version, of an interface with letters or of another
+  AVersion : (letters : Bool) → Due
+  -- any number; a count or attributes; a string; bytes; letters; a UUID
   ANumber : Due
   ACount : Due
   AString : Due
   SomeBytes : Due
+  SomeLetters : Due
   AUuid : Due
   -- a tag, and the value that it selects
   ATag : (arms : List Arm) (default : Option Arm) → Due
@@ -69,9 +71,10 @@ count_dues (Some bound) true = count_due
 count_dues None true = count_due ++ count_due
 
 -- the elements of an array or a pipe
-abbrev pub list_dues : Bool → ℕ → List Due
-list_dues true t = SomeBytes ∷ []
-list_dues false t = opening_bracket ∷ FirstElement t ∷ []
+abbrev pub list_dues : ListForm → ℕ → List Due
+list_dues InBrackets t = opening_bracket ∷ FirstElement t ∷ []
+list_dues AsBytes t = SomeBytes ∷ []
+list_dues AsLetters t = SomeLetters ∷ []
 
 -- what a value of a type consists of; nothing of a type that is not in the table
 abbrev pub value_dues : Version → Table → Option TypeDef → List Due
@@ -79,14 +82,14 @@ value_dues v table (Some (def.Prim p)) = ANumber ∷ []
 value_dues v table (Some (def.Enum values)) = ANumber ∷ []
 value_dues v table (Some (def.Struct members)) =
     This (Other (Mark 123)) ∷ (separated_dues (map (λ f. named_due f.name f.of.0) members) ++ This (Other (Mark 125)) ∷ [])
-value_dues v table (Some (def.Array elem bound varying)) = count_dues bound varying ++ list_dues (writes_octets v (type_at table elem.0)) elem.0
+value_dues v table (Some (def.Array elem bound varying)) = count_dues bound varying ++ list_dues (list_form v (type_at table elem.0)) elem.0
 value_dues v table (Some (def.Text elem (Some bound))) = AString ∷ []
 value_dues v table (Some (def.Text elem None)) = count_due ++ AString ∷ []
 value_dues v table (Some (def.Union tag encapsulated arms default)) = ATag arms default ∷ []
 value_dues v table (Some (def.Pointer class to)) = APointer to.0 ∷ []
 value_dues v table (Some def.Context) =
     This (word (codes "ctx")) ∷ This (Other (Mark 40)) ∷ ACount ∷ This comma ∷ AUuid ∷ This (Other (Mark 41)) ∷ []
-value_dues v table (Some (def.Pipe elem)) = list_dues (writes_octets v (type_at table elem.0)) elem.0
+value_dues v table (Some (def.Pipe elem)) = list_dues (list_form v (type_at table elem.0)) elem.0
 value_dues v table None = []
 
 -- the value of the arm that a tag selects, where that has a type
@@ -105,7 +108,7 @@ root_dues params roots = flat_map (λ r. named_due (root_name params r) r.of) ro
 -- all that is due in a text
 abbrev pub text_dues : Setting → List Due
 text_dues w =
-    This (word (codes "values")) ∷ AVersion ∷ This (word (codes "op")) ∷ This (Name w.op.name) ∷ This (Name (side_word w.side))
+    This (word (codes "values")) ∷ AVersion (has_letters w.table) ∷ This (word (codes "op")) ∷ This (Name w.op.name) ∷ This (Name (side_word w.side))
     ∷ (root_dues w.op.params (root_list w) ++ ACellLine ∷ [])
 
 -- ## Reading on
@@ -169,8 +172,10 @@ abbrev pub is_count_token : ℤ → Bool
 is_count_token (pos n) = is_count n
 is_count_token (negsuc n) = false
 
-abbrev pub version_of : ℤ → Option Version
-version_of z = if int_eq z (pos 1) then Some version.One else (if int_eq z (pos 2) then Some version.Two else None)
+-- the version of a number: 3 where the interface has letters, else 1 or 2
+abbrev pub version_of : Bool → ℤ → Option Version
+version_of true z = if int_eq z (pos 3) then Some version.Three else None
+version_of false z = if int_eq z (pos 1) then Some version.One else (if int_eq z (pos 2) then Some version.Two else None)
 
 -- what was due first is read: these come in its place
 abbrev pub went_on : Reading → List Due → Result Reading TextReason
@@ -201,11 +206,12 @@ line_begun x ds c = if c == x.cells + 1 then with_line x ds (named_type x.named 
 -- A token comes where a due of one token is first, and these are due after it.
 abbrev pub taken : Reading → Due → Token → List Due → Result Reading TextReason
 taken x (This p) t ds = went_on_if (is_this p t) x ds (why_not p t)
-taken x AVersion (Number z) ds = with_version x ds (version_of z)
+taken x (AVersion letters) (Number z) ds = with_version x ds (version_of letters z)
 taken x ANumber (Number z) ds = went_on x ds
 taken x ACount (Number z) ds = went_on_if (is_count_token z) x ds reason.Expected
 taken x AString (Str octets) ds = went_on x ds
 taken x SomeBytes (Bytes octets) ds = went_on x ds
+taken x SomeLetters (Letters units) ds = went_on x ds
 taken x AUuid (Uuid id) ds = went_on x ds
 taken x (ATag arms default) (Number z) ds = went_on x (tag_dues arms default z ++ ds)
 taken x (APointer to) (Word octets) ds = went_on_if (bytes_eq octets (codes "null")) x ds reason.Expected

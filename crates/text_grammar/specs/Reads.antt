@@ -1,10 +1,11 @@
 -- Which graph a text is read as, and where and why a text is that of no graph.
 use Rattle.std.specs.Prelude.{◌≡◌, ◌≢◌, ℕ, ◌+◌, ◌-◌, ◌<◌, ◌≤◌, pos, Bool, true, false, ◌==◌, not, ◌&&◌, if◌then◌else◌, List, [], ◌∷◌, ◌++◌, length}
-use Rattle.std.specs.Prelude.{map, Option, Some, None, Result, Ok, Err}
+use Rattle.std.specs.Prelude.{map, nat_lt, Option, Some, None, Result, Ok, Err}
 use Rattle.std.specs.List.{list_all}
 use Rattle.nd_base.specs.Text.{position_of}
 use Rattle.nd_types.specs.declared.types.TypeDef.{TypeDef}
 use Rattle.nd_types.specs.declared.types.TypeDef.TheVariants as def
+use Rattle.nd_types.specs.Kinds.{has_letters}
 use Rattle.nd_types.specs.Table.{Table, type_at, selected}
 use Rattle.nd_value.specs.declared.value.Graph.{Graph}
 use Rattle.nd_value.specs.Tree as tree
@@ -15,12 +16,13 @@ use Rattle.nd_value.specs.Misfit.{is_octet, is_count}
 use Rattle.nd_value.specs.Deferral.{Pending, home_pointers}
 use Rattle.nd_value.specs.Conforms.{all_nodes, root_pointers}
 use Rattle.text_grammar.specs.declared.version.Version.{Version}
+use Rattle.text_grammar.specs.declared.version.Version.TheVariants as version
 use Rattle.text_grammar.specs.declared.fault.TextReason.{TextReason}
 use Rattle.text_grammar.specs.declared.fault.TextReason.TheVariants as reason
 use Rattle.text_grammar.specs.declared.fault.TextFault.{TextFault}
 use Rattle.text_grammar.specs.declared.fault.TextFault.TheVariants as fault
 use Rattle.text_grammar.specs.declared.TheConstants.{TEXT_LIMIT}
-use Rattle.text_grammar.specs.Written.{writes_octets, Piece, Name, token_of, graph_pieces, graph_tokens}
+use Rattle.text_grammar.specs.Written.{ListForm, InBrackets, AsBytes, AsLetters, list_form, Piece, Name, token_of, graph_pieces, graph_tokens}
 use Rattle.text_grammar.specs.Tokens.{Token, Word, Cell, skip, Cutting, cutting, after, IsCut, Begins}
 
 -- ## The graphs that a text can name: those whose values have the forms that the grammar gives them
@@ -32,19 +34,28 @@ abbrev pub has_offset : Bool → ℕ → Bool
 has_offset true offset = is_count offset
 has_offset false offset = offset == 0
 
--- a number that an octet holds
-abbrev pub is_octet_number : Label → Bool
-is_octet_number (tree.Num (pos b)) = is_octet b
-is_octet_number _ = false
+-- a number that is an octet or a unit, as the test says
+abbrev pub is_unit_number : (ℕ → Bool) → Label → Bool
+is_unit_number is_unit (tree.Num (pos b)) = is_unit b
+is_unit_number is_unit _ = false
 
--- values that are all numbers of an octet
-abbrev pub are_octets : Trees → Bool
-are_octets none = true
-are_octets (more (node l ks) ts) = is_octet_number l && are_octets ts
+-- values that are all such numbers
+abbrev pub are_units : (ℕ → Bool) → Trees → Bool
+are_units is_unit none = true
+are_units is_unit (more (node l ks) ts) = is_unit_number is_unit l && are_units is_unit ts
 
--- elements of this type that are written as octets are octets
+-- a number that two octets hold
+abbrev pub is_letter_unit : ℕ → Bool
+is_letter_unit u = nat_lt u 65536
+
+-- elements that are written as bytes are octets, and those that are written as letters units of two octets
+abbrev pub may_be_listed : ListForm → Trees → Bool
+may_be_listed InBrackets ks = true
+may_be_listed AsBytes ks = are_units is_octet ks
+may_be_listed AsLetters ks = are_units is_letter_unit ks
+
 abbrev pub may_be_elements : Version → Option TypeDef → Trees → Bool
-may_be_elements v elem ks = if writes_octets v elem then are_octets ks else true
+may_be_elements v elem ks = may_be_listed (list_form v elem) ks
 
 -- the maximum count that a text gives an array: its bound, or the number of its elements, unless it is written
 abbrev pub has_maximum : Option ℕ → Bool → ℕ → Trees → Bool
@@ -91,8 +102,14 @@ AreNamed table before c [] = Unit {0}
 AreNamed table before c (x ∷ xs) =
     (first_type before c ≡ Some x.of) × AreNamed table (before ++ home_pointers table (cell_home c) x.of x.val) (c + 1) xs
 
+-- a text of an interface with letters is of version 3, and any other of version 1 or 2
+abbrev pub is_version_for : Table → Version → Bool
+is_version_for table version.Three = has_letters table
+is_version_for table _ = not (has_letters table)
+
 -- a graph that a text of a version can name
 pub record IsReadable (v : Version) (w : Setting) (g : Graph) : Type 0 where
+  pub versioned : is_version_for w.table v ≡ true
   pub all_roots : length g.roots ≡ length (root_list w)
   pub forms : list_all (λ x. is_readable_node v w.table x.typed) (all_nodes w g) ≡ true
   pub named : AreNamed w.table (root_pointers w.table 0 (root_list w) g.roots) 1 g.cells

@@ -2,12 +2,8 @@
 -- `v` is a version, `t` a token, `before` are the tokens before, the last first.
 use Rattle.std.specs.Prelude.{◌≡◌, ℤ, Bool, true, false, not, ◌==◌, List, ◌∷◌}
 use Rattle.text_grammar.specs.declared.version.Version.{Version}
-use Rattle.text_grammar.specs.declared.version.Version.TheVariants as version
-use Rattle.text_grammar.specs.Tokens.{Token, Word, Number, Cell, Str, Bytes, Uuid, Mark, uuid_due, is_version_two}
-
-abbrev pub is_two : Version → Bool
-is_two version.One = false
-is_two version.Two = true
+use Rattle.text_grammar.specs.Tokens.{Token, Word, Number, Cell, Str, Bytes, Letters, Uuid, Mark, uuid_due, cutting}
+use Rattle.text_grammar.specs.Written.{has_bytes, has_letter_lists}
 
 -- no UUID is due after these tokens, nor with a comma more, nor with a number and a comma more
 pub record IsCalm (before : List Token) : Type 0 where
@@ -23,7 +19,8 @@ has_two before = false
 -- the version was read, and no UUID is due
 pub record IsSettled (v : Version) (before : List Token) : Type 0 where
   pub many : has_two before ≡ true
-  pub version : is_version_two before ≡ is_two v
+  pub bytes : (cutting before).bytes ≡ has_bytes v
+  pub letters : (cutting before).letters ≡ has_letter_lists v
   pub calm : IsCalm before
 
 -- neither a UUID nor the parenthesis that may come before one
@@ -33,5 +30,6 @@ is_simple (Number z) = true
 is_simple (Cell c) = true
 is_simple (Str octets) = true
 is_simple (Bytes octets) = true
+is_simple (Letters units) = true
 is_simple (Uuid id) = false
 is_simple (Mark m) = not (m == 40)

@@ -8,13 +8,15 @@ use Rattle.std.specs.Fmt.{signed_decimal}
 use Rattle.std.specs.Str.{bytes_eq}
 use Rattle.nd_base.specs.Text.{is_word, is_word_octet, is_hex_digit, hex_value, uuid_form, has_form}
 
--- a word, a number, the number of a cell, a string with what it stands for, the octets of bytes, a UUID with its 16 octets, a mark
+-- a word, a number, the number of a cell, a string with what it stands for, the octets of bytes, the units of letters, a UUID with its 16 octets, a
+-- mark
 pub data Token : Type 0 where
   Word : (octets : List ℕ) → Token
   Number : (value : ℤ) → Token
   Cell : (number : ℕ) → Token
   Str : (octets : List ℕ) → Token
   Bytes : (octets : List ℕ) → Token
+  Letters : (units : List ℕ) → Token
   Uuid : (id : List ℕ) → Token
   Mark : (octet : ℕ) → Token
 
@@ -75,6 +77,34 @@ abbrev pub begins_bytes : List ℕ → Bool
 begins_bytes (c ∷ d ∷ cs) = c == 120 && d == 34
 begins_bytes _ = false
 
+-- ## Letters
+
+-- four hexadecimal digits in either case, as a unit and what follows
+abbrev pub hex_quad : List ℕ → Option (ℕ × List ℕ)
+hex_quad (a ∷ b ∷ c ∷ d ∷ cs) =
+    if (is_hex_digit a && is_hex_digit b) && (is_hex_digit c && is_hex_digit d)
+    then Some (4096 * hex_value a + 256 * hex_value b + 16 * hex_value c + hex_value d, cs) else None
+hex_quad _ = None
+
+-- after a backslash: quote, backslash, or `u` and four hexadecimal digits
+abbrev pub letter_escape : List ℕ → Option (ℕ × List ℕ)
+letter_escape [] = None
+letter_escape (c ∷ cs) = if c == 34 || c == 92 then Some (c, cs) else (if c == 117 then hex_quad cs else None)
+
+-- the first of letters, as a unit and what follows; none at the closing quote, and where letters cannot go on
+abbrev pub letter : List ℕ → Option (ℕ × List ℕ)
+letter [] = None
+letter (c ∷ cs) = if c == 92 then letter_escape cs else (if is_plain c then Some (c, cs) else None)
+
+-- after `u"`: letters that stand for these units. A surrogate is a unit like others.
+abbrev pub IsLetterString : List ℕ → List ℕ → List ℕ → Type 0
+IsLetterString text units rest = IsQuoted letter text units rest
+
+-- `u"` comes first
+abbrev pub begins_letters : List ℕ → Bool
+begins_letters (c ∷ d ∷ cs) = c == 117 && d == 34
+begins_letters _ = false
+
 -- ## UUIDs
 
 -- the octets that pairs of hexadecimal digits write
@@ -96,6 +126,7 @@ Spells text (Number z) rest = (text ≡ signed_decimal z ++ rest) × (unsigned_a
 Spells text (Cell c) rest = (text ≡ 64 ∷ (decimal c ++ rest)) × (0 < c) × (c < 2 ^ 32) × (ends_run rest ≡ true)
 Spells text (Str octets) rest = (body : List ℕ) × (text ≡ 34 ∷ body) × IsString body octets rest
 Spells text (Bytes octets) rest = (body : List ℕ) × (text ≡ 120 ∷ 34 ∷ body) × IsByteString body octets rest
+Spells text (Letters units) rest = (body : List ℕ) × (text ≡ 117 ∷ 34 ∷ body) × IsLetterString body units rest
 Spells text (Uuid id) rest = (octets : List ℕ) × (text ≡ octets ++ rest) × (has_form uuid_form octets ≡ true) × (id ≡ uuid_octets octets)
 Spells text (Mark mark) rest = (text ≡ mark ∷ rest) × (is_mark mark ≡ true)
 
@@ -107,17 +138,23 @@ abbrev pub is_bytes : Token → Bool
 is_bytes (Bytes octets) = true
 is_bytes t = false
 
--- what the tokens before say of the next one: whether the text is of version 2, and whether a UUID is due
+abbrev pub is_letters : Token → Bool
+is_letters (Letters units) = true
+is_letters t = false
+
+-- what the tokens before say of the next one: whether the text is of version 2 or 3, whether it is of version 3, and whether a UUID is due
 pub record Cutting : Type 0 where
   pub bytes : Bool
+  pub letters : Bool
   pub uuid : Bool
 
--- A token is cut from a text, whose blanks are skipped. It is a UUID exactly where one is due and comes first, and bytes exactly where
--- the text is of version 2 and `x"` comes first.
+-- A token is cut from a text, whose blanks are skipped. It is a UUID exactly where one is due and comes first, bytes exactly where the
+-- text is of version 2 or 3 and `x"` comes first, and letters exactly where it is of version 3 and `u"` comes first.
 pub record IsCut (how : Cutting) (text : List ℕ) (t : Token) (rest : List ℕ) : Type 0 where
   pub spelled : Spells (skip text) t rest
   pub uuid : is_uuid t ≡ (how.uuid && has_form uuid_form (take 36 (skip text)))
   pub bytes : is_bytes t ≡ (how.bytes && begins_bytes (skip text))
+  pub letters : is_letters t ≡ (how.letters && begins_letters (skip text))
 
 -- ## What tokens before say of the next one. They come last first.
 
@@ -126,18 +163,22 @@ abbrev pub uuid_due : List Token → Bool
 uuid_due (Mark comma ∷ Number z ∷ Mark parenthesis ∷ Word word ∷ before) = comma == 44 && (parenthesis == 40 && bytes_eq word (codes "ctx"))
 uuid_due _ = false
 
--- a token is the number 2, and those before it are the word `values` alone
-abbrev pub is_second_version : Token → List Token → Bool
-is_second_version (Number z) (Word word ∷ []) = int_eq z (pos 2) && bytes_eq word (codes "values")
-is_second_version _ _ = false
+-- a token is this number, and those before it are the word `values` alone
+abbrev pub is_version_token : ℤ → Token → List Token → Bool
+is_version_token n (Number z) (Word word ∷ []) = int_eq z n && bytes_eq word (codes "values")
+is_version_token n _ _ = false
 
--- the text is of version 2: its first two tokens are `values 2`
-abbrev pub is_version_two : List Token → Bool
-is_version_two [] = false
-is_version_two (t ∷ before) = is_version_two before || is_second_version t before
+-- the text is of this version: its first two tokens are `values` and the number
+abbrev pub has_version : ℤ → List Token → Bool
+has_version n [] = false
+has_version n (t ∷ before) = has_version n before || is_version_token n t before
 
 abbrev pub cutting : List Token → Cutting
-cutting before = record { bytes = is_version_two before; uuid = uuid_due before }
+cutting before = record {
+  bytes = has_version (pos 2) before || has_version (pos 3) before;
+  letters = has_version (pos 3) before;
+  uuid = uuid_due before;
+}
 
 -- tokens after others, the last first
 abbrev pub after : List Token → List Token → List Token

@@ -1,4 +1,4 @@
--- How a graph is written: the lines of its text in either version, each of so many tokens, and the text that is printed.
+-- How a graph is written: the lines of its text in each version, each of so many tokens, and the text that is printed.
 use Rattle.std.specs.Prelude.{◌≡◌, ℕ, ◌+◌, ◌/◌, ◌%◌, ℤ, pos, Bool, true, false, ◌==◌, ◌&&◌, ◌||◌, nat_le, if◌then◌else◌, List, [], ◌∷◌, ◌++◌, map}
 use Rattle.std.specs.Prelude.{flat_map, take, drop, Option, Some, None, codes, decimal}
 use Rattle.std.specs.List.{slice_get}
@@ -6,7 +6,8 @@ use Rattle.std.specs.Fmt.{signed_decimal}
 use Rattle.nd_base.specs.Text.{uuid_form, hex_digit}
 use Rattle.nd_types.specs.declared.types.TypeDef.{TypeDef}
 use Rattle.nd_types.specs.declared.types.TypeDef.TheVariants as def
-use Rattle.nd_types.specs.declared.types.Primitive.TheVariants.{Byte}
+use Rattle.nd_types.specs.declared.types.Primitive.TheVariants.{Byte, Letter}
+use Rattle.nd_types.specs.Kinds.{has_letters}
 use Rattle.nd_types.specs.declared.types.Field.{Field}
 use Rattle.nd_types.specs.declared.types.Param.{Param}
 use Rattle.nd_types.specs.declared.types.Side.{Side}
@@ -21,7 +22,7 @@ use Rattle.nd_value.specs.Nodes.{child_types}
 use Rattle.nd_value.specs.Canon.{IsCanon}
 use Rattle.text_grammar.specs.declared.version.Version.{Version}
 use Rattle.text_grammar.specs.declared.version.Version.TheVariants as version
-use Rattle.text_grammar.specs.Tokens.{Token, Word, Number, Cell, Str, Bytes, Uuid, Mark}
+use Rattle.text_grammar.specs.Tokens.{Token, Word, Number, Cell, Str, Bytes, Letters, Uuid, Mark}
 
 -- ## The lines of a graph's text
 
@@ -75,25 +76,43 @@ members _ _ = []
 
 -- ### Lists of elements
 
--- in version 2 elements of type byte are written as octets
-abbrev pub writes_octets : Version → Option TypeDef → Bool
-writes_octets version.Two (Some (def.Prim Byte)) = true
-writes_octets _ _ = false
+-- whether a version has bytes, and whether it has letters
+abbrev pub has_bytes : Version → Bool
+has_bytes version.One = false
+has_bytes version.Two = true
+has_bytes version.Three = true
 
--- the octet that a number from 0 on is; not asked of what is none
-abbrev pub octet_in : Label → ℕ
-octet_in (tree.Num (pos b)) = b
-octet_in _ = 0
+abbrev pub has_letter_lists : Version → Bool
+has_letter_lists version.Three = true
+has_letter_lists _ = false
 
--- the octets that values are
-abbrev pub octets_in : Trees → List ℕ
-octets_in none = []
-octets_in (more (node l ks) ts) = octet_in l ∷ octets_in ts
+-- how the elements of a list are written: as values in brackets, as bytes, or as letters
+pub data ListForm : Type 0 where
+  InBrackets : ListForm
+  AsBytes : ListForm
+  AsLetters : ListForm
 
--- the elements of an array or a pipe: values in brackets, or their octets
-abbrev pub list_pieces : Bool → Trees → List (List Piece) → List Piece
-list_pieces true ks values = Other (Bytes (octets_in ks)) ∷ []
-list_pieces false ks values = enclosed 91 values 93
+-- elements of type byte are written as bytes and letters as letters, in versions that have these
+abbrev pub list_form : Version → Option TypeDef → ListForm
+list_form v (Some (def.Prim Byte)) = elim (has_bytes v) [ true ↦ AsBytes | false ↦ InBrackets ]
+list_form v (Some (def.Prim Letter)) = elim (has_letter_lists v) [ true ↦ AsLetters | false ↦ InBrackets ]
+list_form v _ = InBrackets
+
+-- the octet or unit that a number from 0 on is; not asked of what is none
+abbrev pub unit_in : Label → ℕ
+unit_in (tree.Num (pos b)) = b
+unit_in _ = 0
+
+-- the octets or units that values are
+abbrev pub units_in : Trees → List ℕ
+units_in none = []
+units_in (more (node l ks) ts) = unit_in l ∷ units_in ts
+
+-- the elements of an array or a pipe
+abbrev pub list_pieces : ListForm → Trees → List (List Piece) → List Piece
+list_pieces InBrackets ks values = enclosed 91 values 93
+list_pieces AsBytes ks values = Other (Bytes (units_in ks)) ∷ []
+list_pieces AsLetters ks values = Other (Letters (units_in ks)) ∷ []
 
 -- the counts of an array before its elements
 abbrev pub array_counts : Option ℕ → Bool → ℕ → ℕ → List Piece
@@ -120,13 +139,13 @@ abbrev pub node_pieces : Version → Table → Option TypeDef → Label → Tree
 node_pieces v table d (tree.Num z) ks values = number_piece z ∷ []
 node_pieces v table (Some (def.Struct fields)) tree.Rec ks values = enclosed 123 (members fields values) 125
 node_pieces v table (Some (def.Array elem bound varying)) (tree.Arr max offset) ks values =
-    array_counts bound varying max offset ++ list_pieces (writes_octets v (type_at table elem.0)) ks values
+    array_counts bound varying max offset ++ list_pieces (list_form v (type_at table elem.0)) ks values
 node_pieces v table (Some (def.Text elem bound)) (tree.Text max octets) ks values = text_pieces bound max octets
 node_pieces v table d (tree.Union tag) ks values = number_piece tag ∷ colon ∷ arm_pieces values
 node_pieces v table d (tree.Ptr cell) ks values = pointer_pieces cell
 node_pieces v table d (tree.Context attributes id) ks values =
     word (codes "ctx") ∷ enclosed 40 ((count_piece attributes ∷ []) ∷ (Other (Uuid id) ∷ []) ∷ []) 41
-node_pieces v table (Some (def.Pipe elem)) tree.Pipe ks values = list_pieces (writes_octets v (type_at table elem.0)) ks values
+node_pieces v table (Some (def.Pipe elem)) tree.Pipe ks values = list_pieces (list_form v (type_at table elem.0)) ks values
 node_pieces v table d _ ks values = []
 
 -- the tokens of values of these types
@@ -149,6 +168,11 @@ value_pieces v table t value = first_pieces (values_pieces v table (t ∷ []) (m
 abbrev pub version_number : Version → ℕ
 version_number version.One = 1
 version_number version.Two = 2
+version_number version.Three = 3
+
+-- the version in which texts are printed: 3 where the interface has letters, else 2
+abbrev pub version_for : Table → Version
+version_for table = elim (has_letters table) [ true ↦ version.Three | false ↦ version.Two ]
 
 abbrev pub side_word : Side → List ℕ
 side_word side.In = codes "in"
@@ -162,7 +186,7 @@ parameter_name (Some p) = p.field.name
 abbrev pub root_name : List Param → Root → List ℕ
 root_name params r = elim r.param [ None ↦ codes "return" | Some i ↦ parameter_name (slice_get params i) ]
 
--- `values 1` or `values 2`, then `op NAME SIDE`
+-- `values` and the version, then `op NAME SIDE`
 abbrev pub head_lines : Version → Setting → List (List Piece)
 head_lines v w =
     (word (codes "values") ∷ count_piece (version_number v) ∷ []) ∷ (word (codes "op") ∷ Name w.op.name ∷ Name (side_word w.side) ∷ []) ∷ []
@@ -189,7 +213,7 @@ graph_pieces v w g = flat_map (λ line. line) (graph_lines v w g)
 abbrev pub graph_tokens : Version → Setting → Graph → List Token
 graph_tokens v w g = map token_of (graph_pieces v w g)
 
--- ## The text that is printed: the tokens of its lines in version 2, with the canonical blanks between them
+-- ## The text that is printed: the tokens of its lines, with the canonical blanks between them
 
 -- `v` is a version, `t` and `u` are tokens, `b` is an octet, `n` a number below 16.
 
@@ -215,6 +239,11 @@ uuid_text id = fill uuid_form (hex_text id)
 abbrev pub escaped : ℕ → List ℕ
 escaped b = if b == 34 || b == 92 then 92 ∷ b ∷ [] else (if nat_le 32 b && nat_le b 126 then b ∷ [] else 92 ∷ 120 ∷ hex_octet b)
 
+-- a unit of letters: what is printable stands for itself, quote and backslash after a backslash, the rest as \uHHHH
+abbrev pub escaped_letter : ℕ → List ℕ
+escaped_letter u =
+    if u == 34 || u == 92 then 92 ∷ u ∷ [] else (if nat_le 32 u && nat_le u 126 then u ∷ [] else 92 ∷ 117 ∷ (hex_octet (u / 256) ++ hex_octet (u % 256)))
+
 -- octets as a string
 abbrev pub quoted_text : List ℕ → List ℕ
 quoted_text octets = 34 ∷ (flat_map escaped octets ++ 34 ∷ [])
@@ -226,6 +255,7 @@ spelled (Number z) = signed_decimal z
 spelled (Cell c) = 64 ∷ decimal c
 spelled (Str octets) = quoted_text octets
 spelled (Bytes octets) = 120 ∷ 34 ∷ (hex_text octets ++ 34 ∷ [])
+spelled (Letters units) = 117 ∷ 34 ∷ (flat_map escaped_letter units ++ 34 ∷ [])
 spelled (Uuid id) = uuid_text id
 spelled (Mark mark) = mark ∷ []
 
@@ -247,6 +277,7 @@ is_run (Cell c) = true
 is_run (Uuid id) = true
 is_run (Str octets) = false
 is_run (Bytes octets) = false
+is_run (Letters units) = false
 is_run (Mark mark) = false
 
 -- between two tokens of a line there is one space: about an equals sign, after a comma, and where they would run together
@@ -273,8 +304,9 @@ value_text v table t value = tokens_text (map token_of (value_pieces v table t v
 abbrev pub graph_text : Version → Setting → Graph → List ℕ
 graph_text v w g = flat_map (λ line. line_text (map token_of line)) (graph_lines v w g)
 
--- The text of a graph is that of its canonical form, whose cells are numbered in the order in which the stream names them, in version 2.
+-- The text of a graph is that of its canonical form, whose cells are numbered in the order in which the stream names them: in version 3 where the
+-- interface has letters, else in version 2.
 pub record IsText (w : Setting) (g : Graph) (text : List ℕ) : Type 0 where
   pub canonical : Graph
   pub is_canonical : IsCanon w g canonical
-  pub printed : text ≡ graph_text version.Two w canonical
+  pub printed : text ≡ graph_text (version_for w.table) w canonical
