@@ -161,9 +161,12 @@ number_is k (b ∷ bs) (d ∷ ds) (suc i) p n same none at =
       go (inr (l, m)) = inr (l, omega (arith, m))
 
 pub number_in : (types : Table) → starts_with is_same_basic types basic_types ≡ true → list_all (λ d. not (is_basic d)) (drop (length basic_types) types) ≡ true
-    → (t : ℕ) (p : Primitive) → type_at types t ≡ Some (def.Prim p) → IsNumberOf p t (length basic_types)
+    → (t : ℕ) (p : Primitive) → type_at types t ≡ Some (def.Prim p) → IsNumberOf p t 12
 number_in types basic no_later t p at =
-    number_is 0 basic_types types t p (refl, (refl, (refl, (refl, (refl, (refl, (refl, (refl, (refl, (refl, (refl, (refl, tt)))))))))))) basic no_later at
+    plain (number_is 0 basic_types types t p (refl, (refl, (refl, (refl, (refl, (refl, (refl, (refl, (refl, (refl, (refl, (refl, tt)))))))))))) basic no_later at) where
+      plain : IsNumberOf p (0 + t) (0 + length basic_types) → IsNumberOf p t 12
+      plain (inl e) = inl (omega (arith, e))
+      plain (inr (l, m)) = let n : 12 ≤ 0 + t = m in inr (l, omega (arith, n))
 
 module _ (types : Table) (operations : List Operation) (legal : IsLegal types operations) where
   -- each primitive except the letter is under its number

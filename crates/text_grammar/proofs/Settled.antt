@@ -5,9 +5,9 @@ use Rattle.std.specs.Prelude.{pos}
 use Rattle.std.proofs.lemmas.Bool.{and_left, eqb-true, not-true}
 use Rattle.text_grammar.specs.declared.version.Version.{Version}
 use Rattle.text_grammar.specs.declared.version.Version.TheVariants as version
-use Rattle.text_grammar.specs.Tokens.{Token, Word, Number, Cell, Str, Bytes, Uuid, Mark, cutting, uuid_due, is_version_two}
+use Rattle.text_grammar.specs.Tokens.{Token, Word, Number, Cell, Str, Bytes, Uuid, Mark, cutting, uuid_due, has_version (pos 2)}
 use Rattle.text_grammar.specs.Written.{version_number, is_comma}
-use Rattle.text_grammar.specs.Settled.{is_two, IsCalm, has_two, IsSettled, is_simple}
+use Rattle.text_grammar.specs.Settled.{has_bytes, IsCalm, has_two, IsSettled, is_simple}
 
 -- ## Where a UUID is due
 
@@ -73,7 +73,7 @@ calm_context id before = record { now = refl; comma = refl; number = λ z. refl 
 -- ## The version
 
 -- after two tokens the version is known
-pub version_stays : (t : Token) (before : List Token) → has_two before ≡ true → is_version_two (t ∷ before) ≡ is_version_two before
+pub version_stays : (t : Token) (before : List Token) → has_two before ≡ true → has_version (pos 2) (t ∷ before) ≡ has_version (pos 2) before
 version_stays t [] h = cc
 version_stays t (a ∷ []) h = cc
 version_stays t (a ∷ b ∷ before) h = by t a where
@@ -81,20 +81,20 @@ version_stays t (a ∷ b ∷ before) h = by t a where
   same true = refl
   same false = refl
 
-  by : (t a : Token) → is_version_two (t ∷ a ∷ b ∷ before) ≡ is_version_two (a ∷ b ∷ before)
-  by (Number z) (Word x) = same (is_version_two (Word x ∷ b ∷ before))
-  by (Number z) (Number x) = same (is_version_two (Number x ∷ b ∷ before))
-  by (Number z) (Cell x) = same (is_version_two (Cell x ∷ b ∷ before))
-  by (Number z) (Str x) = same (is_version_two (Str x ∷ b ∷ before))
-  by (Number z) (Bytes x) = same (is_version_two (Bytes x ∷ b ∷ before))
-  by (Number z) (Uuid x) = same (is_version_two (Uuid x ∷ b ∷ before))
-  by (Number z) (Mark x) = same (is_version_two (Mark x ∷ b ∷ before))
-  by (Word z) a = same (is_version_two (a ∷ b ∷ before))
-  by (Cell z) a = same (is_version_two (a ∷ b ∷ before))
-  by (Str z) a = same (is_version_two (a ∷ b ∷ before))
-  by (Bytes z) a = same (is_version_two (a ∷ b ∷ before))
-  by (Uuid z) a = same (is_version_two (a ∷ b ∷ before))
-  by (Mark z) a = same (is_version_two (a ∷ b ∷ before))
+  by : (t a : Token) → has_version (pos 2) (t ∷ a ∷ b ∷ before) ≡ has_version (pos 2) (a ∷ b ∷ before)
+  by (Number z) (Word x) = same (has_version (pos 2) (Word x ∷ b ∷ before))
+  by (Number z) (Number x) = same (has_version (pos 2) (Number x ∷ b ∷ before))
+  by (Number z) (Cell x) = same (has_version (pos 2) (Cell x ∷ b ∷ before))
+  by (Number z) (Str x) = same (has_version (pos 2) (Str x ∷ b ∷ before))
+  by (Number z) (Bytes x) = same (has_version (pos 2) (Bytes x ∷ b ∷ before))
+  by (Number z) (Uuid x) = same (has_version (pos 2) (Uuid x ∷ b ∷ before))
+  by (Number z) (Mark x) = same (has_version (pos 2) (Mark x ∷ b ∷ before))
+  by (Word z) a = same (has_version (pos 2) (a ∷ b ∷ before))
+  by (Cell z) a = same (has_version (pos 2) (a ∷ b ∷ before))
+  by (Str z) a = same (has_version (pos 2) (a ∷ b ∷ before))
+  by (Bytes z) a = same (has_version (pos 2) (a ∷ b ∷ before))
+  by (Uuid z) a = same (has_version (pos 2) (a ∷ b ∷ before))
+  by (Mark z) a = same (has_version (pos 2) (a ∷ b ∷ before))
 
 two_more : (t : Token) (before : List Token) → has_two before ≡ true → has_two (t ∷ before) ≡ true
 two_more t [] h = cc
@@ -102,7 +102,7 @@ two_more t (u ∷ before) h = refl
 
 -- ## Settled
 
-pub settled_cutting : (v : Version) (before : List Token) → IsSettled v before → cutting before ≡ record { bytes = is_two v; uuid = false }
+pub settled_cutting : (v : Version) (before : List Token) → IsSettled v before → cutting before ≡ record { bytes = has_bytes v; uuid = false }
 settled_cutting v before s = ap₂ (λ b u. record { bytes = b; uuid = u }) s.version s.calm.now
 
 pub settled_next : (v : Version) (t : Token) (before : List Token) → is_simple t ≡ true → IsSettled v before → IsSettled v (t ∷ before)
@@ -124,7 +124,7 @@ cutting_first = refl
 pub cutting_second : cutting (Word (codes "values") ∷ []) ≡ record { bytes = false; uuid = false }
 cutting_second = refl
 
-pub cutting_third : (v : Version) → cutting (Number (pos (version_number v)) ∷ Word (codes "values") ∷ []) ≡ record { bytes = is_two v; uuid = false }
+pub cutting_third : (v : Version) → cutting (Number (pos (version_number v)) ∷ Word (codes "values") ∷ []) ≡ record { bytes = has_bytes v; uuid = false }
 cutting_third version.One = refl
 cutting_third version.Two = refl
 
@@ -136,31 +136,31 @@ module _ (v : Version) (before : List Token) (s : IsSettled v before) where
   abbrev opened : List Token
   opened = Mark 40 ∷ Word (codes "ctx") ∷ before
 
-  opened_two : is_version_two opened ≡ is_two v
+  opened_two : has_version (pos 2) opened ≡ has_bytes v
   opened_two = version_stays (Mark 40) (Word (codes "ctx") ∷ before) settled_ctx.many ∙ settled_ctx.version
 
-  pub cutting_ctx_1 : cutting (Word (codes "ctx") ∷ before) ≡ record { bytes = is_two v; uuid = false }
+  pub cutting_ctx_1 : cutting (Word (codes "ctx") ∷ before) ≡ record { bytes = has_bytes v; uuid = false }
   cutting_ctx_1 = settled_cutting v (Word (codes "ctx") ∷ before) settled_ctx
 
-  pub cutting_ctx_2 : cutting (Mark 40 ∷ Word (codes "ctx") ∷ before) ≡ record { bytes = is_two v; uuid = false }
+  pub cutting_ctx_2 : cutting (Mark 40 ∷ Word (codes "ctx") ∷ before) ≡ record { bytes = has_bytes v; uuid = false }
   cutting_ctx_2 = ap₂ (λ b u. record { bytes = b; uuid = u }) opened_two (no_uuid (Mark 40) (Word (codes "ctx") ∷ before) refl)
 
-  numbered_two : (z : ℤ) → is_version_two (Number z ∷ opened) ≡ is_two v
+  numbered_two : (z : ℤ) → has_version (pos 2) (Number z ∷ opened) ≡ has_bytes v
   numbered_two z = version_stays (Number z) opened refl ∙ opened_two
 
-  pub cutting_ctx_3 : (z : ℤ) → cutting (Number z ∷ Mark 40 ∷ Word (codes "ctx") ∷ before) ≡ record { bytes = is_two v; uuid = false }
+  pub cutting_ctx_3 : (z : ℤ) → cutting (Number z ∷ Mark 40 ∷ Word (codes "ctx") ∷ before) ≡ record { bytes = has_bytes v; uuid = false }
   cutting_ctx_3 z = ap (λ b. record { bytes = b; uuid = false }) (numbered_two z)
 
-  comma_two : (z : ℤ) → is_version_two (Mark 44 ∷ Number z ∷ opened) ≡ is_two v
+  comma_two : (z : ℤ) → has_version (pos 2) (Mark 44 ∷ Number z ∷ opened) ≡ has_bytes v
   comma_two z = version_stays (Mark 44) (Number z ∷ opened) refl ∙ numbered_two z
 
-  pub cutting_ctx_4 : (z : ℤ) → cutting (Mark 44 ∷ Number z ∷ Mark 40 ∷ Word (codes "ctx") ∷ before) ≡ record { bytes = is_two v; uuid = true }
+  pub cutting_ctx_4 : (z : ℤ) → cutting (Mark 44 ∷ Number z ∷ Mark 40 ∷ Word (codes "ctx") ∷ before) ≡ record { bytes = has_bytes v; uuid = true }
   cutting_ctx_4 z = ap (λ b. record { bytes = b; uuid = true }) (comma_two z)
 
-  uuid_two : (z : ℤ) (id : List ℕ) → is_version_two (Uuid id ∷ Mark 44 ∷ Number z ∷ opened) ≡ is_two v
+  uuid_two : (z : ℤ) (id : List ℕ) → has_version (pos 2) (Uuid id ∷ Mark 44 ∷ Number z ∷ opened) ≡ has_bytes v
   uuid_two z id = version_stays (Uuid id) (Mark 44 ∷ Number z ∷ opened) refl ∙ comma_two z
 
-  pub cutting_ctx_5 : (z : ℤ) (id : List ℕ) → cutting (Uuid id ∷ Mark 44 ∷ Number z ∷ Mark 40 ∷ Word (codes "ctx") ∷ before) ≡ record { bytes = is_two v; uuid = false }
+  pub cutting_ctx_5 : (z : ℤ) (id : List ℕ) → cutting (Uuid id ∷ Mark 44 ∷ Number z ∷ Mark 40 ∷ Word (codes "ctx") ∷ before) ≡ record { bytes = has_bytes v; uuid = false }
   cutting_ctx_5 z id = ap (λ b. record { bytes = b; uuid = false }) (uuid_two z id)
 
   pub settled_ctx_6 : (z : ℤ) (id : List ℕ) → IsSettled v (Mark 41 ∷ Uuid id ∷ Mark 44 ∷ Number z ∷ Mark 40 ∷ Word (codes "ctx") ∷ before)

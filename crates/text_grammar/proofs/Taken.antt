@@ -25,7 +25,7 @@ use Rattle.nd_value.specs.Nodes.{child_types, selected_types}
 use Rattle.nd_value.specs.Misfit.{is_octet, is_count}
 use Rattle.text_grammar.specs.declared.version.Version.{Version}
 use Rattle.text_grammar.specs.Tokens.{Token, Word, Number, Cell, Str, Bytes, Uuid, Mark}
-use Rattle.text_grammar.specs.Written.{Piece, Name, Other, token_of, comma, colon, equals, word, separated, members, named, octets_in, writes_octets, list_pieces, arm_pieces, node_pieces}
+use Rattle.text_grammar.specs.Written.{Piece, Name, Other, token_of, comma, colon, equals, word, separated, members, named, units_in, writes_octets, list_pieces, arm_pieces, node_pieces}
 use Rattle.text_grammar.specs.Written.{values_pieces, value_pieces}
 use Rattle.text_grammar.specs.Reads.{has_maximum, has_offset, are_octets, may_be_elements, has_text_form}
 use Rattle.text_grammar.specs.Dues.{Due, This, ACount, AString, AUuid, FirstElement, NextElement, AValue, Reading, separated_dues, count_dues, list_dues, arm_dues, value_dues, closes, may_end}
@@ -289,22 +289,22 @@ module _ (table : Table) (known : KnowsTypes table) (y : Reading) (ends : may_en
 
   -- ## Octets
 
-  abbrev byte_trees : List ℕ → Trees
-  byte_trees [] = none
-  byte_trees (b ∷ bs) = more (node (tree.Num (pos b)) none) (byte_trees bs)
+  abbrev unit_trees : List ℕ → Trees
+  unit_trees [] = none
+  unit_trees (b ∷ bs) = more (node (tree.Num (pos b)) none) (unit_trees bs)
 
-  bytes_same : (octets : List ℕ) → octets_in (byte_trees octets) ≡ octets
+  bytes_same : (octets : List ℕ) → units_in (unit_trees octets) ≡ octets
   bytes_same [] = refl
   bytes_same (b ∷ bs) = ap (λ (l : List ℕ). b ∷ l) (bytes_same bs)
 
-  bytes_are : (octets : List ℕ) → list_all is_octet octets ≡ true → are_octets (byte_trees octets) ≡ true
+  bytes_are : (octets : List ℕ) → list_all is_octet octets ≡ true → are_octets (unit_trees octets) ≡ true
   bytes_are [] h = refl
-  bytes_are (b ∷ bs) h = let p = and_parts (is_octet b) (list_all is_octet bs) h in and_from (is_octet b) (are_octets (byte_trees bs)) p.0 (bytes_are bs p.1)
+  bytes_are (b ∷ bs) h = let p = and_parts (is_octet b) (list_all is_octet bs) h in and_from (is_octet b) (are_octets (unit_trees bs)) p.0 (bytes_are bs p.1)
 
-  bytes_forms : (t : ℕ) → type_at table t ≡ Some (def.Prim Byte) → (octets : List ℕ) → have_forms v table (many_of t (byte_trees octets)) (byte_trees octets) ≡ true
+  bytes_forms : (t : ℕ) → type_at table t ≡ Some (def.Prim Byte) → (octets : List ℕ) → have_forms v table (many_of t (unit_trees octets)) (unit_trees octets) ≡ true
   bytes_forms t e [] = refl
   bytes_forms t e (b ∷ bs) =
-      more_forms v table t (many_of t (byte_trees bs)) (node (tree.Num (pos b)) none) (byte_trees bs)
+      more_forms v table t (many_of t (unit_trees bs)) (node (tree.Num (pos b)) none) (unit_trees bs)
       (subst (λ (d : Option TypeDef). (has_text_form v table d (tree.Num (pos b)) none && (have_forms v table (child_types d (tree.Num (pos b)) none) none && true)) ≡ true) (sym e) refl)
       (bytes_forms t e bs)
 
@@ -323,12 +323,12 @@ module _ (table : Table) (known : KnowsTypes table) (y : Reading) (ends : may_en
         let a = bytes_taken table y ends v ds nb k ts e in
         let p = and_parts (is_real (Bytes a.0)) (list_all is_real a.1) (ap (list_all is_real) (sym a.2) ∙ real) in
         record {
-          values = byte_trees a.0;
+          values = unit_trees a.0;
           forms = bytes_forms t (bytes_alone v (type_at table t) w) a.0;
-          elements = ap (λ (b : Bool). cond b (are_octets (byte_trees a.0)) true) w ∙ bytes_are a.0 p.0;
+          elements = ap (λ (b : Bool). cond b (are_octets (unit_trees a.0)) true) w ∙ bytes_are a.0 p.0;
           others = a.1;
           is = a.2 ∙ ap (λ (l : List ℕ). Bytes l ∷ a.1) (sym (bytes_same a.0))
-              ∙ ap (λ (b : Bool). map token_of (list_pieces b (byte_trees a.0) (pieces_of v table (many_of t (byte_trees a.0)) (byte_trees a.0))) ++ a.1) (sym w);
+              ∙ ap (λ (b : Bool). map token_of (list_pieces b (unit_trees a.0) (pieces_of v table (many_of t (unit_trees a.0)) (unit_trees a.0))) ++ a.1) (sym w);
         }
     by false w e =
         let a = this_taken table y ends v (FirstElement t ∷ ds) nb k (Other (Mark 91)) ts e in

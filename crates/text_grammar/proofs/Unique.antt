@@ -16,7 +16,7 @@ use Rattle.nd_value.specs.Tree.{Tree, Trees, node, none, more, count, Label}
 use Rattle.nd_value.specs.Nodes.{child_types, selected_types}
 use Rattle.text_grammar.specs.declared.version.Version.{Version}
 use Rattle.text_grammar.specs.Tokens.{Token, Mark}
-use Rattle.text_grammar.specs.Written.{Piece, Other, token_of, separated, members, named, octet_in, octets_in, writes_octets, list_pieces, array_counts, arm_pieces, node_pieces, values_pieces}
+use Rattle.text_grammar.specs.Written.{Piece, Other, token_of, separated, members, named, unit_in, units_in, writes_octets, list_pieces, array_counts, arm_pieces, node_pieces, values_pieces}
 use Rattle.text_grammar.specs.Written.{value_pieces}
 use Rattle.text_grammar.specs.Reads.{has_offset, has_maximum, may_be_elements, is_octet_number, are_octets, has_text_form}
 use Rattle.text_grammar.specs.Dues.{closes}
@@ -145,13 +145,13 @@ module _ (v : Version) (table : Table) where
   -- ## Octets
 
   octet_node : (p : Primitive) (l : Label) (xs : Trees) → has_text_form v table (Some (def.Prim p)) l xs ≡ true → is_octet_number l ≡ true
-      → node l xs ≡ node (tree.Num (pos (octet_in l))) none
+      → node l xs ≡ node (tree.Num (pos (unit_in l))) none
   octet_node p (tree.Num (pos b)) none h o = refl
   octet_node p (tree.Num (negsuc b)) none h o = cc
   octet_node p l xs h o = cc
 
   octets_one : (t : ℕ) (p : Primitive) → type_at table t ≡ Some (def.Prim p) → (ks us : Trees) → have_forms v table (many_of t ks) ks ≡ true → have_forms v table (many_of t us) us ≡ true
-      → are_octets ks ≡ true → are_octets us ≡ true → octets_in ks ≡ octets_in us → ks ≡ us
+      → are_octets ks ≡ true → are_octets us ≡ true → units_in ks ≡ units_in us → ks ≡ us
   octets_one t p e none none h i a b f = refl
   octets_one t p e none (more (node m ys) us) h i a b f = cc
   octets_one t p e (more (node l xs) ks) none h i a b f = cc
@@ -164,8 +164,8 @@ module _ (v : Version) (table : Table) where
       let jp : has_text_form v table (Some (def.Prim p)) m ys ≡ true = subst (λ (d : Option TypeDef). has_text_form v table d m ys ≡ true) e jf in
       let ao = and_parts (is_octet_number l) (are_octets ks) a in
       let bo = and_parts (is_octet_number m) (are_octets us) b in
-      let same : octet_in l ≡ octet_in m = cc in
-      let others : octets_in ks ≡ octets_in us = cc in
+      let same : unit_in l ≡ unit_in m = cc in
+      let others : units_in ks ≡ units_in us = cc in
       ap₂ (λ x xs. more x xs) (octet_node p l xs hp ao.0 ∙ ap (λ x. node (tree.Num (pos x)) none) same ∙ sym (octet_node p m ys jp bo.0))
       (octets_one t p e ks us h1.1 i1.1 ao.1 bo.1 others)
 
@@ -179,7 +179,7 @@ module _ (v : Version) (table : Table) where
     by true w e =
         let a' : are_octets ks ≡ true = subst (λ x. cond x (are_octets ks) true ≡ true) w a in
         let b' : are_octets us ≡ true = subst (λ x. cond x (are_octets us) true ≡ true) w b in
-        let same : octets_in ks ≡ octets_in us = cc in
+        let same : units_in ks ≡ units_in us = cc in
         (octets_one t Byte (bytes_alone v (type_at table t) w) ks us h i a' b' same, cc)
     by false w e =
         let e' : map token_of (separated (pieces_of (many_of t ks) ks) ++ Other (Mark 93) ∷ []) ++ ts ≡ map token_of (separated (pieces_of (many_of t us) us) ++ Other (Mark 93) ∷ []) ++ rs = cc in

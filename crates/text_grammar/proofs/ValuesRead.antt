@@ -18,7 +18,7 @@ use Rattle.nd_value.specs.Nodes.{child_types, selected_types}
 use Rattle.nd_value.specs.Misfit.{is_count}
 use Rattle.text_grammar.specs.declared.version.Version.{Version}
 use Rattle.text_grammar.specs.Tokens.{Token, Word, Number, Cell, Str, Bytes, Uuid, Mark}
-use Rattle.text_grammar.specs.Written.{Piece, Name, Other, token_of, comma, colon, equals, separated, members, named, octets_in, writes_octets, list_pieces, array_counts, arm_pieces, node_pieces}
+use Rattle.text_grammar.specs.Written.{Piece, Name, Other, token_of, comma, colon, equals, separated, members, named, units_in, writes_octets, list_pieces, array_counts, arm_pieces, node_pieces}
 use Rattle.text_grammar.specs.Written.{values_pieces, value_pieces}
 use Rattle.text_grammar.specs.Reads.{has_offset, has_maximum, has_text_form}
 use Rattle.text_grammar.specs.Dues.{Due, This, ACount, AString, AUuid, FirstElement, NextElement, AValue, separated_dues, named_due, count_dues, list_dues, value_dues, arm_dues, closes, all_read}
@@ -236,7 +236,7 @@ module _ (v : Version) (table : Table) where
   }
 
   list_opens : (b : Bool) (ks : Trees) (values : List (List Piece)) → Opens (map token_of (list_pieces b ks values))
-  list_opens true ks values = record { first = Bytes (octets_in ks); others = []; is = refl; opens = refl }
+  list_opens true ks values = record { first = Bytes (units_in ks); others = []; is = refl; opens = refl }
   list_opens false ks values = record { first = Mark 91; others = map token_of (separated values ++ Other (Mark 93) ∷ []); is = refl; opens = refl }
 
   array_opens : (bound : Option ℕ) (varying : Bool) (max offset : ℕ) (ps : List Piece) → Opens (map token_of ps) → Opens (map token_of (array_counts bound varying max offset ++ ps))

@@ -18,7 +18,7 @@ use Rattle.nd_value.specs.Misfit.{is_octet}
 use Rattle.text_grammar.specs.declared.version.Version.{Version}
 use Rattle.text_grammar.specs.declared.version.Version.TheVariants as version
 use Rattle.text_grammar.specs.Tokens.{Bytes, character, escape, hex_pair, is_plain, IsQuoted, IsCut}
-use Rattle.text_grammar.specs.Written.{token_of, octets_in, list_pieces, values_pieces, writes_octets}
+use Rattle.text_grammar.specs.Written.{token_of, units_in, list_pieces, values_pieces, writes_octets}
 use Rattle.text_grammar.specs.Reads.{are_octets, has_text_form}
 use Rattle.text_grammar.specs.Dues.{SomeBytes, list_dues}
 use Rattle.text_grammar.proofs.Runs.{skip_less}
@@ -28,7 +28,7 @@ use Rattle.text_parser.specs.declared.stop.Stop.{Stop}
 use Rattle.text_parser.specs.Lexemes.{plain}
 use Rattle.text_parser.specs.Misses.{Misses}
 use Rattle.text_parser.specs.Passing.{Named, Passes, Halts, AreElements, element_types}
-use Rattle.text_parser.specs.ValueParts.{byte_trees}
+use Rattle.text_parser.specs.ValueParts.{unit_trees}
 use Rattle.text_parser.proofs.Passages.{passes_one, halts_miss}
 use Rattle.text_parser.proofs.OneMore.{count_trees}
 use Rattle.text_grammar.proofs.Real.{hex_small as hex_low}
@@ -81,19 +81,19 @@ quoted_count first some (b ∷ bs) body rest s = omega (arith, some body b s.0 s
 
 -- ## Values of bytes
 
-byte_count : (os : List ℕ) → node_count (trees (byte_trees os)) ≡ length os
+byte_count : (os : List ℕ) → node_count (trees (unit_trees os)) ≡ length os
 byte_count [] = refl
 byte_count (b ∷ os) = omega (arith, byte_count os)
 
-bytes_in : (os : List ℕ) → octets_in (trees (byte_trees os)) ≡ os
+bytes_in : (os : List ℕ) → units_in (trees (unit_trees os)) ≡ os
 bytes_in [] = refl
 bytes_in (b ∷ os) = ap (λ (l : List ℕ). b ∷ l) (bytes_in os)
 
-bytes_are : (os : List ℕ) → list_all is_octet os ≡ true → are_octets (trees (byte_trees os)) ≡ true
+bytes_are : (os : List ℕ) → list_all is_octet os ≡ true → are_octets (trees (unit_trees os)) ≡ true
 bytes_are [] h = refl
 bytes_are (b ∷ os) h =
     let p = and_parts (is_octet b) (list_all is_octet os) h in
-    and_from (is_octet b) (are_octets (trees (byte_trees os))) p.0 (bytes_are os p.1)
+    and_from (is_octet b) (are_octets (trees (unit_trees os))) p.0 (bytes_are os p.1)
 
 -- the type of bytes, where they are written as octets
 byte_type : (v : Version) (d : Option TypeDef) → writes_octets v d ≡ true → d ≡ Some (def.Prim Byte)
@@ -101,7 +101,7 @@ byte_type version.Two (Some (def.Prim Byte)) h = refl
 byte_type v d h = cc
 
 -- one octet more
-pub byte_more : (vs : List Tree) (os : List ℕ) (b : ℕ) (new : List Tree) → vs ≡ byte_trees os → new ≡ vs ++ node (tree.Num (pos b)) none ∷ [] → new ≡ byte_trees (os ++ b ∷ [])
+pub byte_more : (vs : List Tree) (os : List ℕ) (b : ℕ) (new : List Tree) → vs ≡ unit_trees os → new ≡ vs ++ node (tree.Num (pos b)) none ∷ [] → new ≡ unit_trees (os ++ b ∷ [])
 byte_more vs os b new e h =
     h ∙ ap (λ (l : List Tree). l ++ node (tree.Num (pos b)) none ∷ []) e ∙ sym (map-append (λ (b : ℕ). node (tree.Num (pos b)) none) os (b ∷ []))
 
@@ -109,34 +109,34 @@ module _ (v : Version) (table : Table) (t : ℕ) (octets : writes_octets v (type
   is : type_at table t ≡ Some (def.Prim Byte)
   is = byte_type v (type_at table t) octets
 
-  byte_forms : (os : List ℕ) → have_forms v table (replicate (length os) t) (trees (byte_trees os)) ≡ true
+  byte_forms : (os : List ℕ) → have_forms v table (replicate (length os) t) (trees (unit_trees os)) ≡ true
   byte_forms [] = refl
   byte_forms (b ∷ os) =
       subst (λ (d : Option TypeDef).
       (has_text_form v table d (tree.Num (pos b)) none
-      && (have_forms v table (child_types d (tree.Num (pos b)) none) none && have_forms v table (replicate (length os) t) (trees (byte_trees os)))) ≡ true)
+      && (have_forms v table (child_types d (tree.Num (pos b)) none) none && have_forms v table (replicate (length os) t) (trees (unit_trees os)))) ≡ true)
       (sym is) (byte_forms os)
 
-  byte_noted : (os : List ℕ) (ns : Named) → noted table (replicate (length os) t) (trees (byte_trees os)) ns ≡ ns
+  byte_noted : (os : List ℕ) (ns : Named) → noted table (replicate (length os) t) (trees (unit_trees os)) ns ≡ ns
   byte_noted [] ns = refl
   byte_noted (b ∷ os) ns =
-      ap (λ (d : Option TypeDef). noted table (replicate (length os) t) (trees (byte_trees os)) (noted table (child_types d (tree.Num (pos b)) none) none (noted_node d (tree.Num (pos b)) ns))) is
+      ap (λ (d : Option TypeDef). noted table (replicate (length os) t) (trees (unit_trees os)) (noted table (child_types d (tree.Num (pos b)) none) none (noted_node d (tree.Num (pos b)) ns))) is
       ∙ byte_noted os ns
 
   pub bytes_halt : (ns : Named) (text : List ℕ) (e : Stop) → Misses v SomeBytes text e → Halts v table (list_dues true t) ns text e
   bytes_halt ns text e m = halts_miss v table SomeBytes [] ns text e refl m
 
-  counted : (os : List ℕ) → count (trees (byte_trees os)) ≡ length os
-  counted os = count_trees (byte_trees os) ∙ length-map os (λ b. node (tree.Num (pos b)) none)
+  counted : (os : List ℕ) → count (trees (unit_trees os)) ≡ length os
+  counted os = count_trees (unit_trees os) ∙ length-map os (λ b. node (tree.Num (pos b)) none)
 
-  pub bytes_read : (ns : Named) (text rest : List ℕ) (os : List ℕ) (vs : List Tree) → vs ≡ byte_trees os → IsCut (plain v) text (Bytes os) rest → AreElements v table t ns text (trees vs) ns rest
+  pub bytes_read : (ns : Named) (text rest : List ℕ) (os : List ℕ) (vs : List Tree) → vs ≡ unit_trees os → IsCut (plain v) text (Bytes os) rest → AreElements v table t ns text (trees vs) ns rest
   bytes_read ns text rest os vs e cut = subst (λ (l : List Tree). AreElements v table t ns text (trees l) ns rest) (sym e) (record {
-    octets = ap (λ b. if b then are_octets (trees (byte_trees os)) else true) octets ∙ bytes_are os low;
-    forms = subst (λ n. have_forms v table (replicate n t) (trees (byte_trees os)) ≡ true) (sym (counted os)) (byte_forms os);
-    names = sym (ap (λ n. noted table (replicate n t) (trees (byte_trees os)) ns) (counted os) ∙ byte_noted os ns);
+    octets = ap (λ b. if b then are_octets (trees (unit_trees os)) else true) octets ∙ bytes_are os low;
+    forms = subst (λ n. have_forms v table (replicate n t) (trees (unit_trees os)) ≡ true) (sym (counted os)) (byte_forms os);
+    names = sym (ap (λ n. noted table (replicate n t) (trees (unit_trees os)) ns) (counted os) ∙ byte_noted os ns);
     passes =
         subst (λ b. Passes v table (list_dues b t) ns text
-        (map token_of (list_pieces b (trees (byte_trees os)) (values_pieces v table (element_types t (trees (byte_trees os))) (trees (byte_trees os))))) [] ns rest) (sym octets)
+        (map token_of (list_pieces b (trees (unit_trees os)) (values_pieces v table (element_types t (trees (unit_trees os))) (trees (unit_trees os))))) [] ns rest) (sym octets)
         (subst (λ (l : List ℕ). Passes v table (list_dues true t) ns text (Bytes l ∷ []) [] ns rest) (sym (bytes_in os))
         (passes_one v table (SomeBytes ∷ []) [] ns ns text rest (Bytes os) refl cut (λ more cells. refl)));
     few = omega (arith, byte_count os, quoted_count hex_pair pair_less os cut.spelled.0 rest cut.spelled.2, ap length cut.spelled.1, skip_less text);

@@ -14,7 +14,7 @@ use Rattle.text_grammar.specs.Runs.{run, after_run, value_from, leading_zero, is
 use Rattle.text_grammar.proofs.Runs.{run_again}
 use Rattle.text_grammar.proofs.Numerals.{digits_are_words}
 use Rattle.text_grammar.proofs.Scanned.{natural_some}
-use Rattle.text_grammar.specs.Settled.{is_two}
+use Rattle.text_grammar.specs.Settled.{has_bytes}
 use Rattle.text_grammar.proofs.Quoted.{character_quote}
 use Rattle.text_parser.specs.Lexemes.{plain}
 use Rattle.text_parser.specs.Quick.{is_one_of_marks, first_digit, HasDigits, is_whole, plain_run, after_plain}
@@ -34,7 +34,7 @@ pub mark_cut : (v : Version) (due : ℕ) (text rest : List ℕ) → text ≡ due
 mark_cut v due text rest e m = subst (λ (l : List ℕ). IsCut (plain v) l (Mark due) rest) (sym e) (record {
   spelled = (skips, m);
   uuid = refl;
-  bytes = sym (ap (λ (l : List ℕ). is_two v && begins_bytes l) skips ∙ ap (λ b. is_two v && b) (no_x due rest m) ∙ and-false (is_two v));
+  bytes = sym (ap (λ (l : List ℕ). has_bytes v && begins_bytes l) skips ∙ ap (λ b. has_bytes v && b) (no_x due rest m) ∙ and-false (has_bytes v));
 }) where
   no_blank : is_blank due ≡ false
   no_blank = grind (arith, nat_tests, m)

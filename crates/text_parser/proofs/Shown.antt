@@ -2,21 +2,21 @@
 use Rattle.std.proofs.Common.{◌≡◌, ℕ, true, false, ◌&&◌, List, [], ◌∷◌, refl, sym, ap, ap₂, subst, ◌∙◌}
 use Rattle.text_grammar.specs.declared.version.Version.{Version}
 use Rattle.text_grammar.specs.Tokens.{Token, Word, Number, Cell, Str, Bytes, Uuid, Mark, Spells, is_uuid, is_bytes, begins_bytes, skip, IsByteString, IsCut}
-use Rattle.text_grammar.specs.Settled.{is_two}
+use Rattle.text_grammar.specs.Settled.{has_bytes}
 use Rattle.text_parser.specs.declared.lexeme.Lexeme as shown
 use Rattle.text_parser.specs.declared.lexeme.Lexeme.TheVariants as lexeme
 use Rattle.text_parser.specs.Lexemes.{plain, ShowsPlain, IsFirst, NoFirst, Shows, Comes}
 
 -- ## Bytes
 
-pub bytes_first : (v : Version) (text body octets rest : List ℕ) → is_two v ≡ true → text ≡ 120 ∷ 34 ∷ body → IsByteString body octets rest → IsFirst v text (Bytes octets) rest
+pub bytes_first : (v : Version) (text body octets rest : List ℕ) → has_bytes v ≡ true → text ≡ 120 ∷ 34 ∷ body → IsByteString body octets rest → IsFirst v text (Bytes octets) rest
 bytes_first v text body octets rest two e s = record {
   spelled = (body, e, s);
   no_uuid = refl;
   bytes = sym (ap₂ (λ b (l : List ℕ). b && begins_bytes l) two e);
 }
 
-pub no_bytes : (v : Version) (text body : List ℕ) → is_two v ≡ true → text ≡ 120 ∷ 34 ∷ body → ((octets rest : List ℕ) → IsByteString body octets rest → ⊥) → NoFirst v text
+pub no_bytes : (v : Version) (text body : List ℕ) → has_bytes v ≡ true → text ≡ 120 ∷ 34 ∷ body → ((octets rest : List ℕ) → IsByteString body octets rest → ⊥) → NoFirst v text
 no_bytes v text body two e none = (λ n. let no : 120 ∷ 34 ∷ body ≡ [] = sym e ∙ n in cc, λ t rest f. by t rest f.spelled (f.bytes ∙ ap₂ (λ b (l : List ℕ). b && begins_bytes l) two e)) where
   by : (t : Token) (rest : List ℕ) → Spells text t rest → is_bytes t ≡ true → ⊥
   by (Bytes octets) rest s b =
@@ -32,7 +32,7 @@ no_bytes v text body two e none = (λ n. let no : 120 ∷ 34 ∷ body ≡ [] = s
 
 -- ## What comes first
 
-module _ (v : Version) (text rest : List ℕ) (none : (is_two v && begins_bytes text) ≡ false) where
+module _ (v : Version) (text rest : List ℕ) (none : (has_bytes v && begins_bytes text) ≡ false) where
   first_plain : (t : Token) → is_uuid t ≡ false → is_bytes t ≡ false → Spells text t rest → IsFirst v text t rest
   first_plain t u b s = record { spelled = s; no_uuid = u; bytes = b ∙ sym none }
 
@@ -53,14 +53,14 @@ module _ (v : Version) (text here : List ℕ) (e : here ≡ skip text) where
   cut_first t rest f = record {
     spelled = subst (λ (l : List ℕ). Spells l t rest) e f.spelled;
     uuid = f.no_uuid;
-    bytes = f.bytes ∙ ap (λ (l : List ℕ). is_two v && begins_bytes l) e;
+    bytes = f.bytes ∙ ap (λ (l : List ℕ). has_bytes v && begins_bytes l) e;
   }
 
   first_cut : (t : Token) (rest : List ℕ) → IsCut (plain v) text t rest → IsFirst v here t rest
   first_cut t rest c = record {
     spelled = subst (λ (l : List ℕ). Spells l t rest) (sym e) c.spelled;
     no_uuid = c.uuid;
-    bytes = c.bytes ∙ sym (ap (λ (l : List ℕ). is_two v && begins_bytes l) e);
+    bytes = c.bytes ∙ sym (ap (λ (l : List ℕ). has_bytes v && begins_bytes l) e);
   }
 
   pub comes : (l : shown.Lexeme) (rest : List ℕ) → Shows v here l rest → Comes v text l rest

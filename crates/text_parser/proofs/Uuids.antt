@@ -12,7 +12,7 @@ use Rattle.text_grammar.specs.declared.version.Version.{Version}
 use Rattle.text_grammar.specs.Tokens.{Token, Uuid, skip, begins_bytes, hex_octets, hex_pair, uuid_octets, IsCut}
 use Rattle.text_grammar.specs.Reads.{Cut, End, Bad}
 use Rattle.text_grammar.proofs.Classes.{is_no_hyphen, digit_no_hyphen}
-use Rattle.text_grammar.specs.Settled.{is_two}
+use Rattle.text_grammar.specs.Settled.{has_bytes}
 use Rattle.text_parser.specs.declared.lexeme.Lexeme as shown
 use Rattle.text_parser.specs.declared.lexeme.Lexeme.TheVariants as lexeme
 use Rattle.text_parser.specs.declared.stop.Stop.TheVariants as stop
@@ -121,7 +121,7 @@ pub uuid_cut : (v : Version) (text id rest : List ℕ) → IsUuid (skip text) id
 uuid_cut v text id rest u = record {
   spelled = (take 36 (skip text), sym (take-append-drop 36 (skip text)) ∙ ap (λ (l : List ℕ). take 36 (skip text) ++ l) (sym u.rest_is), u.form, u.id_is);
   uuid = sym u.form;
-  bytes = by (is_two v);
+  bytes = by (has_bytes v);
 } where
   by : (b : Bool) → false ≡ (b && begins_bytes (skip text))
   by true = sym (no_bytes (skip text) u.form)

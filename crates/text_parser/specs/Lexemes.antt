@@ -7,42 +7,44 @@ use Rattle.nd_value.specs.Misfit.{is_count}
 use Rattle.text_grammar.specs.declared.version.Version.{Version}
 use Rattle.text_grammar.specs.declared.fault.TextReason.{TextReason}
 use Rattle.text_grammar.specs.declared.fault.TextReason.TheVariants as reason
-use Rattle.text_grammar.specs.Tokens.{Token, Word, Number, Cell, Str, Bytes, Mark, Spells, is_uuid, is_bytes, is_mark, begins_bytes, skip, IsString}
-use Rattle.text_grammar.specs.Tokens.{IsByteString, Cutting, IsCut}
+use Rattle.text_grammar.specs.Tokens.{Token, Word, Number, Cell, Str, Bytes, Letters, Mark, Spells, is_uuid, is_bytes, is_letters, is_mark, begins_bytes, begins_letters, skip}
+use Rattle.text_grammar.specs.Tokens.{IsString, IsByteString, IsLetterString, Cutting, IsCut}
 use Rattle.text_grammar.specs.Reads.{IsNext, Bad}
 use Rattle.text_grammar.specs.Dues.{is_count_token, version_of}
-use Rattle.text_grammar.specs.Settled.{is_two}
+use Rattle.text_grammar.specs.Written.{has_bytes, has_letter_lists}
 use Rattle.text_parser.specs.declared.lexeme.Lexeme as shown
 use Rattle.text_parser.specs.declared.lexeme.Lexeme.TheVariants as lexeme
 
 -- where no UUID is due
 abbrev pub plain : Version → Cutting
-plain v = record { bytes = is_two v; uuid = false }
+plain v = record { bytes = has_bytes v; letters = has_letter_lists v; uuid = false }
 
 -- where one is due
 abbrev pub for_uuid : Version → Cutting
-for_uuid v = record { bytes = is_two v; uuid = true }
+for_uuid v = record { bytes = has_bytes v; letters = has_letter_lists v; uuid = true }
 
--- no token but a UUID or bytes comes first
+-- no token but a UUID, bytes or letters comes first
 abbrev pub NoToken : List ℕ → Type 0
-NoToken text = (text ≢ []) × ((t : Token) (rest : List ℕ) → is_uuid t ≡ false → is_bytes t ≡ false → Spells text t rest → ⊥)
+NoToken text = (text ≢ []) × ((t : Token) (rest : List ℕ) → is_uuid t ≡ false → is_bytes t ≡ false → is_letters t ≡ false → Spells text t rest → ⊥)
 
--- what comes first in a text without blanks at its front, where bytes do not
+-- what comes first in a text without blanks at its front, where neither bytes nor letters do
 abbrev pub ShowsPlain : List ℕ → shown.Lexeme → List ℕ → Type 0
 ShowsPlain text (lexeme.Word word) rest = Spells text (Word word.now) rest
 ShowsPlain text (lexeme.Number z) rest = Spells text (Number z) rest
 ShowsPlain text (lexeme.Cell c) rest = Spells text (Cell c) rest
 ShowsPlain text (lexeme.Str body) rest = (octets : List ℕ) × IsString body.now octets rest × Spells text (Str octets) rest
 ShowsPlain text (lexeme.Bytes body) rest = ⊥
+ShowsPlain text (lexeme.Letters body) rest = ⊥
 ShowsPlain text (lexeme.Mark c) rest = Spells text (Mark c) rest
 ShowsPlain text lexeme.End rest = text ≡ []
 ShowsPlain text lexeme.Bad rest = NoToken text
 
--- a token other than a UUID comes first in a text without blanks at its front; it is bytes exactly where those come first
+-- a token other than a UUID comes first in a text without blanks at its front; it is bytes or letters exactly where those come first
 pub record IsFirst (v : Version) (text : List ℕ) (t : Token) (rest : List ℕ) : Type 0 where
   pub spelled : Spells text t rest
   pub no_uuid : is_uuid t ≡ false
-  pub bytes : is_bytes t ≡ (is_two v && begins_bytes text)
+  pub bytes : is_bytes t ≡ (has_bytes v && begins_bytes text)
+  pub letters : is_letters t ≡ (has_letter_lists v && begins_letters text)
 
 abbrev pub NoFirst : Version → List ℕ → Type 0
 NoFirst v text = (text ≢ []) × ((t : Token) (rest : List ℕ) → IsFirst v text t rest → ⊥)
@@ -54,6 +56,7 @@ Shows v text (lexeme.Number z) rest = IsFirst v text (Number z) rest
 Shows v text (lexeme.Cell c) rest = IsFirst v text (Cell c) rest
 Shows v text (lexeme.Str body) rest = (octets : List ℕ) × IsString body.now octets rest × IsFirst v text (Str octets) rest
 Shows v text (lexeme.Bytes body) rest = (octets : List ℕ) × IsByteString body.now octets rest × IsFirst v text (Bytes octets) rest
+Shows v text (lexeme.Letters body) rest = (units : List ℕ) × IsLetterString body.now units rest × IsFirst v text (Letters units) rest
 Shows v text (lexeme.Mark c) rest = IsFirst v text (Mark c) rest
 Shows v text lexeme.End rest = text ≡ []
 Shows v text lexeme.Bad rest = NoFirst v text
@@ -65,6 +68,7 @@ Comes v text (lexeme.Number z) rest = IsCut (plain v) text (Number z) rest
 Comes v text (lexeme.Cell c) rest = IsCut (plain v) text (Cell c) rest
 Comes v text (lexeme.Str body) rest = (octets : List ℕ) × IsString body.now octets rest × IsCut (plain v) text (Str octets) rest
 Comes v text (lexeme.Bytes body) rest = (octets : List ℕ) × IsByteString body.now octets rest × IsCut (plain v) text (Bytes octets) rest
+Comes v text (lexeme.Letters body) rest = (units : List ℕ) × IsLetterString body.now units rest × IsCut (plain v) text (Letters units) rest
 Comes v text (lexeme.Mark c) rest = IsCut (plain v) text (Mark c) rest
 Comes v text lexeme.End rest = skip text ≡ []
 Comes v text lexeme.Bad rest = IsNext (plain v) text Bad
@@ -95,9 +99,10 @@ abbrev pub count_shown : shown.Lexeme → Option ℤ
 count_shown (lexeme.Number z) = count_by z
 count_shown l = None
 
-abbrev pub version_shown : shown.Lexeme → Option Version
-version_shown (lexeme.Number z) = version_of z
-version_shown l = None
+-- the version that a number is, of an interface with letters or of another
+abbrev pub version_shown : Bool → shown.Lexeme → Option Version
+version_shown letters (lexeme.Number z) = version_of letters z
+version_shown letters l = None
 
 abbrev pub cell_shown : shown.Lexeme → Option ℕ
 cell_shown (lexeme.Cell c) = Some c
@@ -110,6 +115,10 @@ string_shown l = None
 abbrev pub bytes_shown : shown.Lexeme → Option (List ℕ)
 bytes_shown (lexeme.Bytes body) = Some body.now
 bytes_shown l = None
+
+abbrev pub letters_shown : shown.Lexeme → Option (List ℕ)
+letters_shown (lexeme.Letters body) = Some body.now
+letters_shown l = None
 
 abbrev pub is_end : shown.Lexeme → Bool
 is_end lexeme.End = true

@@ -1,3 +1,4 @@
+pub mod SeenForms
 pub mod Passing
 pub mod Identifiers
 pub mod NamedCells

@@ -14,7 +14,7 @@ use Rattle.text_grammar.specs.declared.fault.TextFault.TheVariants as fault
 use Rattle.text_grammar.specs.Tokens as tokens
 use Rattle.text_grammar.specs.Tokens.{Token, Word, Number, Cell, Mark, Begins, IsCut, skip}
 use Rattle.text_grammar.specs.Written.{Name, word, token_of, named, version_number, value_pieces}
-use Rattle.text_grammar.specs.Dues.{Due, This, AVersion, ACellLine, Reading, named_due, named_type, all_read}
+use Rattle.text_grammar.specs.Dues.{Due, This, AVersion, version_of, ACellLine, Reading, named_due, named_type, all_read}
 use Rattle.text_grammar.specs.Reader.{ComesTo, Stopped}
 use Rattle.text_grammar.specs.Settled.{IsSettled}
 use Rattle.text_grammar.specs.Values.{reading, have_forms, noted, value_tokens}
@@ -25,14 +25,15 @@ use Rattle.text_parser.specs.Passing.{Named, Passes}
 
 -- ## The head
 
-abbrev pub head_dues : List ℕ → List ℕ → List Due
-head_dues op side = This (word (codes "values")) ∷ AVersion ∷ This (word (codes "op")) ∷ This (Name op) ∷ This (Name side) ∷ []
+abbrev pub head_dues : Bool → List ℕ → List ℕ → List Due
+head_dues letters op side = This (word (codes "values")) ∷ AVersion letters ∷ This (word (codes "op")) ∷ This (Name op) ∷ This (Name side) ∷ []
 
 abbrev pub head_tokens : Version → List ℕ → List ℕ → List Token
 head_tokens v op side = Word (codes "values") ∷ Number (pos (version_number v)) ∷ Word (codes "op") ∷ Word op ∷ Word side ∷ []
 
--- the head is read
-pub record HasHead (op side text : List ℕ) (v : Version) (rest : List ℕ) : Type 0 where
+-- the head is read, of an interface with letters or of another
+pub record HasHead (letters : Bool) (op side text : List ℕ) (v : Version) (rest : List ℕ) : Type 0 where
+  pub fits : version_of letters (pos (version_number v)) ≡ Some v
   pub begins : Begins [] text (head_tokens v op side) rest
   pub less : length rest ≤ length text
 
@@ -42,8 +43,9 @@ Refuses table x text stop.Memory = Unit {0}
 Refuses table x text (stop.At left why) = ComesTo table x [] text (Stopped left why)
 
 -- in the head, with whatever is due after it
-abbrev pub HeadHalts : List ℕ → List ℕ → List ℕ → Stop → Type 0
-HeadHalts op side text e = (table : Table) (more : List Due) → Refuses table (reading version.One (head_dues op side ++ more) [] 0) text e
+abbrev pub HeadHalts : Bool → List ℕ → List ℕ → List ℕ → Stop → Type 0
+HeadHalts letters op side text e =
+    (table : Table) (more : List Due) → Refuses table (reading version.One (head_dues letters op side ++ more) [] 0) text e
 
 -- ## Roots
 

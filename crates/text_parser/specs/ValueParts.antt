@@ -66,9 +66,9 @@ abbrev pub bound_or : Option ℕ → ℕ → ℕ
 bound_or None n = n
 bound_or (Some bound) n = bound
 
--- octets as values
-abbrev pub byte_trees : List ℕ → List Tree
-byte_trees octets = map (λ b. node (tree.Num (pos b)) none) octets
+-- octets or units as values
+abbrev pub unit_trees : List ℕ → List Tree
+unit_trees units = map (λ b. node (tree.Num (pos b)) none) units
 
 -- ## Pointers
 

@@ -1,14 +1,14 @@
 // What comes first in a value text.
 ghost use Rattle.std.specs.Prelude.{◌≡◌, ◌∷◌, ◌&&◌, ◌≤◌, true, false, length, MatchOption};
 ghost use Rattle.nd_base.specs.Text as octets;
-ghost use Rattle.text_grammar.specs.Tokens.{begins_bytes, skip};
+ghost use Rattle.text_grammar.specs.Tokens.{begins_bytes, begins_letters, skip};
 ghost use Rattle.text_grammar.specs.Runs.{begins};
-ghost use Rattle.text_grammar.specs.Settled.{is_two};
+ghost use Rattle.text_grammar.specs.Written.{has_bytes, has_letter_lists};
 ghost use Rattle.text_parser.specs.Lexemes.{ShowsPlain, Shows, Comes, other};
 
 use crate::numbers::natural;
 use crate::octets::{is_mark, run_end, skip_blanks};
-use crate::strings::{after_bytes, after_string};
+use crate::strings::{after_bytes, after_letters, after_string};
 use nd_base::text::is_letter;
 use text_grammar::Version;
 
@@ -25,6 +25,8 @@ pub enum Lexeme<'a> {
     Str(&'a [u8]),
     /// Bytes: the text after their opening quote.
     Bytes(&'a [u8]),
+    /// Letters: the text after their opening quote.
+    Letters(&'a [u8]),
     /// One of the marks `= { } [ ] , : ( )`.
     Mark(u8),
     /// The end of the text.
@@ -47,12 +49,24 @@ fn quoted<'a>(text: &'a [u8], body: &'a [u8]) -> (Lexeme<'a>, &'a [u8])
 
 /// Bytes, after `x"`.
 fn quoted_bytes<'a>(version: Version, text: &'a [u8], body: &'a [u8]) -> (Lexeme<'a>, &'a [u8])
-    requires two { is_two version ≡ true }
+    requires two { has_bytes version ≡ true }
     requires begins { text.now ≡ 120 ∷ 34 ∷ body.now }
     ensures { Shows version text.now result.0 result.1.now }
 {
     match after_bytes(body) {
         Some(rest) => (Lexeme::Bytes(body), rest),
+        None => (Lexeme::Bad, text),
+    }
+}
+
+/// Letters, after `u"`.
+fn quoted_letters<'a>(version: Version, text: &'a [u8], body: &'a [u8]) -> (Lexeme<'a>, &'a [u8])
+    requires three { has_letter_lists version ≡ true }
+    requires begins { text.now ≡ 117 ∷ 34 ∷ body.now }
+    ensures { Shows version text.now result.0 result.1.now }
+{
+    match after_letters(body) {
+        Some(rest) => (Lexeme::Letters(body), rest),
         None => (Lexeme::Bad, text),
     }
 }
@@ -109,7 +123,7 @@ fn word(text: &[u8]) -> (Lexeme<'_>, &[u8])
     (Lexeme::Word(&text[..end]), &text[end..])
 }
 
-/// What comes first in a text without blanks at its front, where bytes do not.
+/// What comes first in a text without blanks at its front, where neither bytes nor letters do.
 #[inline(always)]
 fn first_plain(text: &[u8]) -> (Lexeme<'_>, &[u8])
     ensures { ShowsPlain text.now result.0 result.1.now }
@@ -125,15 +139,15 @@ fn first_plain(text: &[u8]) -> (Lexeme<'_>, &[u8])
     }
 }
 
-/// What follows `x"` at the front of a text of version 2.
+/// What follows `x"` at the front of a text of version 2 or 3.
 #[inline(always)]
 fn bytes_body(version: Version, text: &[u8]) -> Option<&[u8]>
-    ensures { MatchOption result ((is_two version && begins_bytes text.now) ≡ false)
-        (λ body. (is_two version ≡ true) × (text.now ≡ 120 ∷ 34 ∷ body.now)) }
+    ensures { MatchOption result ((has_bytes version && begins_bytes text.now) ≡ false)
+        (λ body. (has_bytes version ≡ true) × (text.now ≡ 120 ∷ 34 ∷ body.now)) }
 {
     match version {
         Version::One => None,
-        Version::Two => after_opening(text),
+        Version::Two | Version::Three => after_opening(text),
     }
 }
 
@@ -148,6 +162,41 @@ fn after_opening(text: &[u8]) -> Option<&[u8]>
     }
 }
 
+/// What follows `u"` at the front of a text of version 3.
+#[inline(always)]
+fn letters_body(version: Version, text: &[u8]) -> Option<&[u8]>
+    ensures { MatchOption result ((has_letter_lists version && begins_letters text.now) ≡ false)
+        (λ body. (has_letter_lists version ≡ true) × (text.now ≡ 117 ∷ 34 ∷ body.now)) }
+{
+    match version {
+        Version::One | Version::Two => None,
+        Version::Three => after_letter_opening(text),
+    }
+}
+
+/// What follows `u"` at the front of a text.
+#[inline(always)]
+fn after_letter_opening(text: &[u8]) -> Option<&[u8]>
+    ensures { MatchOption result (begins_letters text.now ≡ false) (λ body. text.now ≡ 117 ∷ 34 ∷ body.now) }
+{
+    match text {
+        [b'u', b'"', body @ ..] => Some(body),
+        _ => None,
+    }
+}
+
+/// What comes first in a text without blanks at its front, where bytes do not.
+#[inline(always)]
+fn first_other(version: Version, text: &[u8]) -> (Lexeme<'_>, &[u8])
+    requires no_bytes { (has_bytes version && begins_bytes text.now) ≡ false }
+    ensures { Shows version text.now result.0 result.1.now }
+{
+    match letters_body(version, text) {
+        Some(body) => quoted_letters(version, text, body),
+        None => first_plain(text),
+    }
+}
+
 /// What comes first in a text without blanks at its front, and what follows it. Where a UUID is due the caller tries that before.
 #[inline(always)]
 fn first(version: Version, text: &[u8]) -> (Lexeme<'_>, &[u8])
@@ -155,7 +204,7 @@ fn first(version: Version, text: &[u8]) -> (Lexeme<'_>, &[u8])
 {
     match bytes_body(version, text) {
         Some(body) => quoted_bytes(version, text, body),
-        None => first_plain(text),
+        None => first_other(version, text),
     }
 }
 

@@ -5,7 +5,8 @@ ghost use Rattle.nd_types.specs.Layout.{type_list};
 ghost use Rattle.nd_value.specs.Misfit.{is_count};
 ghost use Rattle.nd_value.specs.Nodes.{selected_types};
 ghost use Rattle.nd_value.specs.Seen.{cell_number};
-ghost use Rattle.text_grammar.specs.Written.{Name, equals, writes_octets};
+ghost use Rattle.text_grammar.specs.Written.{Name, equals, list_form as form_by};
+ghost use Rattle.text_parser.specs.SeenForms.{seen_form};
 ghost use Rattle.text_grammar.specs.Dues.{This, count_due};
 ghost use Rattle.text_parser.specs.Known.{is_numeral};
 ghost use Rattle.text_parser.specs.Passing.{Named, Passes, Halts};
@@ -131,17 +132,26 @@ pub(crate) fn maximum_or(bound: Option<u32>, written: u32) -> u32
     }
 }
 
-/// Whether elements of a type are written as octets: bytes in version 2.
+/// How the elements of a list are written.
+#[derive(Clone, Copy, Debug, PartialEq, Eq)]
+pub(crate) enum ListForm {
+    /// As values in brackets.
+    InBrackets,
+    /// As bytes, after `x`.
+    AsBytes,
+    /// As letters, after `u`.
+    AsLetters,
+}
+
+/// How elements of a type are written in a version.
 #[inline(always)]
-pub(crate) fn are_bytes(under: Grammar<'_>, elem: TypeId) -> bool
-    ensures { result ≡ writes_octets under.entry.version (type_at under.entry.types.now elem.0) }
+pub(crate) fn list_form(under: Grammar<'_>, elem: TypeId) -> ListForm
+    ensures { seen_form result ≡ form_by under.entry.version (type_at under.entry.types.now elem.0) }
 {
-    match under.version {
-        Version::One => false,
-        Version::Two => matches!(
-            under.types.get(elem.0 as usize),
-            Some(TypeDef::Prim(Prim::Byte))
-        ),
+    match (under.version, under.types.get(elem.0 as usize)) {
+        (Version::Two | Version::Three, Some(TypeDef::Prim(Prim::Byte))) => ListForm::AsBytes,
+        (Version::Three, Some(TypeDef::Prim(Prim::Letter))) => ListForm::AsLetters,
+        _ => ListForm::InBrackets,
     }
 }
 

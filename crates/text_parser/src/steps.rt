@@ -1,10 +1,10 @@
 // One token of what is due at a time.
 ghost use Rattle.std.specs.Prelude.{◌≡◌, ◌∷◌, ◌<◌, ℕ, List, pos, true, codes, IfOk, IfErr, IfNone, IfSome, length, Some, None, option_map};
 ghost use Rattle.nd_value.specs.Misfit.{is_count};
-ghost use Rattle.text_grammar.specs.Tokens.{Word, Number, Mark, Str, Bytes, IsString, IsByteString, IsCut, is_mark as is_mark_octet};
+ghost use Rattle.text_grammar.specs.Tokens.{Word, Number, Mark, Str, Bytes, Letters, IsString, IsByteString, IsLetterString, IsCut, is_mark as is_mark_octet};
 ghost use Rattle.text_grammar.specs.declared.version.Version.TheVariants as versions;
 ghost use Rattle.text_grammar.specs.Written.{Name, Other, version_number};
-ghost use Rattle.text_grammar.specs.Dues.{This, AVersion, ANumber, ACount, AString, SomeBytes, APointer};
+ghost use Rattle.text_grammar.specs.Dues.{This, AVersion, ANumber, ACount, AString, SomeBytes, SomeLetters, APointer, version_of};
 ghost use Rattle.text_parser.specs.declared.stop.Stop.TheVariants as stop;
 ghost use Rattle.text_parser.specs.Lexemes as shown;
 ghost use Rattle.text_parser.specs.Lexemes.{plain, reference_token, reference_fits};
@@ -88,6 +88,17 @@ fn bytes_in(lexeme: Lexeme<'_>) -> Option<&[u8]>
 {
     match lexeme {
         Lexeme::Bytes(body) => Some(body),
+        _ => None,
+    }
+}
+
+/// The text after the opening quote of the letters that a lexeme is, if it is some.
+#[inline(always)]
+fn letters_in(lexeme: Lexeme<'_>) -> Option<&[u8]>
+    ensures { option_map (λ body. body.now) result ≡ shown.letters_shown lexeme.entry }
+{
+    match lexeme {
+        Lexeme::Letters(body) => Some(body),
         _ => None,
     }
 }
@@ -286,25 +297,40 @@ pub(crate) fn bytes<'a>(version: Version, text: &'a [u8]) -> Result<(&'a [u8], &
     }
 }
 
-/// The version that a lexeme is the number of, if it is one.
-fn version_in(lexeme: Lexeme<'_>) -> Option<Version>
-    ensures { result ≡ shown.version_shown lexeme.entry }
+/// Letters: the text after their opening quote, and what follows them.
+pub(crate) fn letters<'a>(version: Version, text: &'a [u8]) -> Result<(&'a [u8], &'a [u8]), Stop>
+    ensures ok { IfOk result (λ x. (units : List ℕ) × IsLetterString x.0.now units x.1.now × IsCut (plain version) text.now (Letters units) x.1.now) }
+    ensures less { IfOk result (λ x. length x.1.now < length text.now) }
+    ensures err { IfErr result (λ e. Misses version SomeLetters text.now e) }
 {
-    match lexeme {
-        Lexeme::Number(1) => Some(Version::One),
-        Lexeme::Number(2) => Some(Version::Two),
+    let next = scan(version, text);
+    match letters_in(next.lexeme) {
+        Some(body) => Ok((body, next.rest)),
+        None => Err(unexpected(&next)),
+    }
+}
+
+/// The version that a lexeme is the number of, if it is one: of an interface with letters, or of another.
+fn version_in(letters: bool, lexeme: Lexeme<'_>) -> Option<Version>
+    ensures { result ≡ shown.version_shown letters lexeme.entry }
+{
+    match (letters, lexeme) {
+        (false, Lexeme::Number(1)) => Some(Version::One),
+        (false, Lexeme::Number(2)) => Some(Version::Two),
+        (true, Lexeme::Number(3)) => Some(Version::Three),
         _ => None,
     }
 }
 
-/// The number of a version.
-pub(crate) fn version(text: &[u8]) -> Result<(Version, &[u8]), Stop>
+/// The number of a version, of an interface with letters or of another.
+pub(crate) fn version(letters: bool, text: &[u8]) -> Result<(Version, &[u8]), Stop>
     ensures ok { IfOk result (λ x. IsCut (plain versions.One) text.now (Number (pos (version_number x.0))) x.1.now) }
+    ensures fits { IfOk result (λ x. version_of letters (pos (version_number x.0)) ≡ Some x.0) }
     ensures less { IfOk result (λ x. length x.1.now < length text.now) }
-    ensures err { IfErr result (λ e. Misses versions.One AVersion text.now e) }
+    ensures err { IfErr result (λ e. Misses versions.One (AVersion letters) text.now e) }
 {
     let next = scan(Version::One, text);
-    match version_in(next.lexeme) {
+    match version_in(letters, next.lexeme) {
         Some(version) => Ok((version, next.rest)),
         None => Err(unexpected(&next)),
     }

@@ -1,8 +1,8 @@
-// Strings and bytes of a value text.
-ghost use Rattle.std.specs.Prelude.{◌≡◌, ◌<◌, ◌≤◌, true, List, ℕ, length, take, drop, IfOk, IfSome, MatchOption, option_map};
+// Strings, bytes and letters of a value text.
+ghost use Rattle.std.specs.Prelude.{◌≡◌, ◌+◌, ◌*◌, ◌<◌, ◌≤◌, true, List, ℕ, length, take, drop, IfOk, IfSome, MatchOption, option_map};
 ghost use Rattle.nd_base.specs.Text as octets;
 ghost use Rattle.text_grammar.specs.Tokens as tokens;
-ghost use Rattle.text_grammar.specs.Tokens.{IsString, IsByteString};
+ghost use Rattle.text_grammar.specs.Tokens.{IsString, IsByteString, IsLetterString};
 ghost use Rattle.text_grammar.specs.Runs.{after_quote as after_quote_by};
 ghost use Rattle.text_parser.specs.Quick.{plain_run, after_plain};
 
@@ -87,6 +87,63 @@ pub fn character(text: &[u8]) -> Option<(u8, &[u8])>
     }
 }
 
+/// Four hexadecimal digits, as a unit of letters and what follows.
+#[inline(always)]
+fn hex_quad(text: &[u8]) -> Option<(u16, &[u8])>
+    ensures is { option_map (λ x. (x.0, x.1.now)) result ≡ tokens.hex_quad text.now }
+    ensures less { IfSome result (λ x. length x.1.now < length text.now) }
+{
+    match text {
+        [a, b, c, d, rest @ ..]
+            if (is_hex_digit(*a) && is_hex_digit(*b)) && (is_hex_digit(*c) && is_hex_digit(*d)) =>
+        {
+            Some((unit_of(*a, *b, *c, *d), rest))
+        }
+        _ => None,
+    }
+}
+
+/// The unit that four hexadecimal digits write.
+#[inline(always)]
+fn unit_of(a: u8, b: u8, c: u8, d: u8) -> u16
+    requires a { octets.is_hex_digit a ≡ true }
+    requires b { octets.is_hex_digit b ≡ true }
+    requires c { octets.is_hex_digit c ≡ true }
+    requires d { octets.is_hex_digit d ≡ true }
+    ensures { result ≡ 4096 * octets.hex_value a + 256 * octets.hex_value b + 16 * octets.hex_value c + octets.hex_value d }
+{
+    let high = 4096 * u16::from(hex_value(a)) + 256 * u16::from(hex_value(b));
+    high + 16 * u16::from(hex_value(c)) + u16::from(hex_value(d))
+}
+
+/// What follows a backslash in letters.
+#[inline(always)]
+fn letter_escape(text: &[u8]) -> Option<(u16, &[u8])>
+    ensures is { option_map (λ x. (x.0, x.1.now)) result ≡ tokens.letter_escape text.now }
+    ensures less { IfSome result (λ x. length x.1.now < length text.now) }
+{
+    match text {
+        [octet, rest @ ..] if *octet == b'"' || *octet == b'\\' => {
+            Some((u16::from(*octet), rest))
+        }
+        [b'u', rest @ ..] => hex_quad(rest),
+        _ => None,
+    }
+}
+
+/// The first of letters, as a unit and what follows; none where no letter comes.
+#[inline(always)]
+pub(crate) fn letter(text: &[u8]) -> Option<(u16, &[u8])>
+    ensures is { option_map (λ x. (x.0, x.1.now)) result ≡ tokens.letter text.now }
+    ensures less { IfSome result (λ x. length x.1.now < length text.now) }
+{
+    match text {
+        [b'\\', rest @ ..] => letter_escape(rest),
+        [octet, rest @ ..] if is_plain(*octet) => Some((u16::from(*octet), rest)),
+        _ => None,
+    }
+}
+
 /// What follows a closing quote.
 #[inline(always)]
 fn after_quote(text: &[u8]) -> Option<&[u8]>
@@ -117,6 +174,18 @@ pub fn after_bytes(body: &[u8]) -> Option<&[u8]>
 {
     let mut rest = body;
     while let Some((_, after)) = hex_pair(rest) {
+        rest = after;
+    }
+    after_quote(rest)
+}
+
+/// What follows letters, after their opening quote; none where they do not end as letters do.
+pub fn after_letters(body: &[u8]) -> Option<&[u8]>
+    ensures { MatchOption result ((units rest : List ℕ) → IsLetterString body.now units rest → ⊥)
+        (λ rest. (units : List ℕ) × IsLetterString body.now units rest.now) }
+{
+    let mut rest = body;
+    while let Some((_, after)) = letter(rest) {
         rest = after;
     }
     after_quote(rest)

@@ -27,7 +27,7 @@ use crate::parts::named;
 use crate::steps::{cell_in, is_end, mark, name, refused, unexpected, version, word};
 use crate::values::value;
 use nd_base::text::position;
-use nd_types::{Interface, Side, TypeId};
+use nd_types::{Interface, Side, TypeId, has_letters};
 use nd_value::{Cell, Cells, Graph, Val, Vals};
 use std::alloc::Global;
 use text_grammar::{TEXT_LIMIT, TextFault, TextReason, Version};
@@ -94,7 +94,8 @@ fn whole_text(
     let Some(operation) = interface.operations.get(op as usize) else {
         unreachable!()
     };
-    let (version, start) = head(text, operation.name.as_slice(), side_name(side))?;
+    let letters = has_letters(&interface.types);
+    let (version, start) = head(letters, text, operation.name.as_slice(), side_name(side))?;
     let under = Grammar {
         alloc,
         version,
@@ -107,12 +108,17 @@ fn whole_text(
 }
 
 /// `values`, the version, and the operation with its side.
-fn head<'a>(text: &'a [u8], operation: &[u8], side: &[u8]) -> Result<(Version, &'a [u8]), Stop>
-    ensures ok { IfOk result (λ x. HasHead operation.now side.now text.now x.0 x.1.now) }
-    ensures err { IfErr result (λ e. HeadHalts operation.now side.now text.now e) }
+fn head<'a>(
+    letters: bool,
+    text: &'a [u8],
+    operation: &[u8],
+    side: &[u8],
+) -> Result<(Version, &'a [u8]), Stop>
+    ensures ok { IfOk result (λ x. HasHead letters operation.now side.now text.now x.0 x.1.now) }
+    ensures err { IfErr result (λ e. HeadHalts letters operation.now side.now text.now e) }
 {
     let first = word(Version::One, text, b"values")?;
-    let (of, second) = version(first)?;
+    let (of, second) = version(letters, first)?;
     let third = word(of, second, b"op")?;
     let fourth = name(of, third, operation)?;
     let rest = name(of, fourth, side)?;

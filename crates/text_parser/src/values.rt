@@ -8,25 +8,25 @@ ghost use Rattle.nd_types.specs.Layout.{type_list};
 ghost use Rattle.nd_types.specs.Table.{type_at};
 ghost use Rattle.nd_value.specs.Seen.{tree_of};
 ghost use Rattle.nd_value.specs.Tree.{trees};
-ghost use Rattle.text_grammar.specs.Tokens.{Mark, IsByteString, IsCut};
-ghost use Rattle.text_grammar.specs.Written.{writes_octets};
+ghost use Rattle.text_grammar.specs.Tokens.{Mark, IsByteString, IsLetterString, IsCut};
+ghost use Rattle.text_grammar.specs.Written.{InBrackets, AsBytes, AsLetters, list_form as form_by};
 ghost use Rattle.text_grammar.specs.Dues.{AValue, FirstElement, arm_dues, list_dues, named_due};
 ghost use Rattle.text_parser.specs.Lexemes.{plain};
 ghost use Rattle.text_parser.specs.declared.stop.Stop.TheVariants as stop;
 ghost use Rattle.text_parser.specs.Passing.{Named, Halts, IsValue, AreElements};
 ghost use Rattle.text_parser.specs.Known.{IsType, IsUnion, AreOf, is_numeral};
-ghost use Rattle.text_parser.specs.ValueParts.{comma_dues, byte_trees, IsMember, HaveCome, IsArm};
+ghost use Rattle.text_parser.specs.ValueParts.{comma_dues, unit_trees, IsMember, HaveCome, IsArm};
 
 use crate::Stop;
 use crate::grammar::Grammar;
 use crate::identifiers::identifier;
 use crate::names::Names;
 use crate::parts::{
-    are_bytes, are_numerals, cell_of, is_unbound, maximum_before, maximum_is_written, maximum_of,
-    maximum_or, named, note_reference, selected_type, separator, written_count,
+    ListForm, are_numerals, cell_of, is_unbound, list_form, maximum_before, maximum_is_written,
+    maximum_of, maximum_or, named, note_reference, selected_type, separator, written_count,
 };
-use crate::steps::{after_mark, bytes, count, mark, number, reference, string, word};
-use crate::strings::{hex_pair, string_octets};
+use crate::steps::{after_mark, bytes, count, letters, mark, number, reference, string, word};
+use crate::strings::{hex_pair, letter, string_octets};
 use nd_types::{Arm, Arms, Fields, TypeDef, TypeId};
 use nd_value::{ArmVal, Val, Vals};
 use std::alloc::Global;
@@ -213,7 +213,7 @@ fn pipe<'a>(under: Grammar<'_>, names: &mut Names, elem: TypeId, text: &'a [u8])
     Ok((Val::Pipe(items), rest))
 }
 
-/// The elements of an array or a pipe: bytes in version 2 by their digits, all else between brackets.
+/// The elements of an array or a pipe: bytes and letters as the version has them, all else between brackets.
 #[cycle(values)]
 fn elements<'a>(
     under: Grammar<'_>,
@@ -225,14 +225,13 @@ fn elements<'a>(
     requires short { length text.now < 2 ^ 32 }
     ensures ok { IfOk result (λ x. AreElements under.entry.version under.entry.types.now elem.0 names.old text.now (trees x.0) names.new x.1.now) }
     ensures err { IfErr result (λ e. Halts under.entry.version under.entry.types.now
-        (list_dues (writes_octets under.entry.version (type_at under.entry.types.now elem.0)) elem.0) names.old text.now e) }
+        (list_dues (form_by under.entry.version (type_at under.entry.types.now elem.0)) elem.0) names.old text.now e) }
 {
-    if are_bytes(under, elem) {
-        let (vals, rest) = byte_elements(under, elem, text)?;
-        return Ok((vals, rest));
+    match list_form(under, elem) {
+        ListForm::AsBytes => byte_elements(under, elem, text),
+        ListForm::AsLetters => letter_elements(under, elem, text),
+        ListForm::InBrackets => listed(under, names, elem, text),
     }
-    let (items, end) = listed(under, names, elem, text)?;
-    Ok((items, end))
 }
 
 /// Elements between brackets.
@@ -245,9 +244,9 @@ fn listed<'a>(
 ) -> Result<(Vals, &'a [u8]), Stop>
     requires known { elem.0 < length under.types.now }
     requires short { length text.now < 2 ^ 32 }
-    requires values { writes_octets under.version (type_at under.types.now elem.0) ≡ false }
+    requires values { form_by under.version (type_at under.types.now elem.0) ≡ InBrackets }
     ensures ok { IfOk result (λ x. AreElements under.entry.version under.entry.types.now elem.0 names.old text.now (trees x.0) names.new x.1.now) }
-    ensures err { IfErr result (λ e. Halts under.entry.version under.entry.types.now (list_dues false elem.0) names.old text.now e) }
+    ensures err { IfErr result (λ e. Halts under.entry.version under.entry.types.now (list_dues InBrackets elem.0) names.old text.now e) }
 {
     let start = mark(under.version, text, b'[')?;
     if let Some(end) = after_mark(under.version, start, b']') {
@@ -318,18 +317,49 @@ fn byte_elements<'a>(
     elem: TypeId,
     text: &'a [u8],
 ) -> Result<(Vals, &'a [u8]), Stop>
-    requires octets { writes_octets under.version (type_at under.types.now elem.0) ≡ true }
+    requires octets { form_by under.version (type_at under.types.now elem.0) ≡ AsBytes }
     ensures ok { IfOk result (λ x. (ns : Named) → AreElements under.entry.version under.entry.types.now elem.0 ns text.now (trees x.0) ns x.1.now) }
-    ensures err { IfErr result (λ e. (ns : Named) → Halts under.entry.version under.entry.types.now (list_dues true elem.0) ns text.now e) }
+    ensures err { IfErr result (λ e. (ns : Named) → Halts under.entry.version under.entry.types.now (list_dues AsBytes elem.0) ns text.now e) }
 {
     let (body, rest) = bytes(under.version, text)?;
     let vals = byte_values(under.alloc, body)?;
     Ok((vals, rest))
 }
 
+/// Letters by their characters.
+fn letter_elements<'a>(
+    under: Grammar<'_>,
+    elem: TypeId,
+    text: &'a [u8],
+) -> Result<(Vals, &'a [u8]), Stop>
+    requires letters { form_by under.version (type_at under.types.now elem.0) ≡ AsLetters }
+    ensures ok { IfOk result (λ x. (ns : Named) → AreElements under.entry.version under.entry.types.now elem.0 ns text.now (trees x.0) ns x.1.now) }
+    ensures err { IfErr result (λ e. (ns : Named) → Halts under.entry.version under.entry.types.now (list_dues AsLetters elem.0) ns text.now e) }
+{
+    let (body, rest) = letters(under.version, text)?;
+    let vals = letter_values(under.alloc, body)?;
+    Ok((vals, rest))
+}
+
+/// The values of letters, after their opening quote.
+fn letter_values(alloc: Global, body: &[u8]) -> Result<Vals, Stop>
+    ensures ok { IfOk result (λ vals. (units rest : List ℕ) → IsLetterString body.now units rest → vals ≡ unit_trees units) }
+    ensures err { IfErr result (λ e. e ≡ stop.Memory) }
+{
+    let mut vals = Vals::new(alloc);
+    let mut rest = body;
+    while let Some((unit, after)) = letter(rest) {
+        let Ok(()) = vals.push(Val::Num(i128::from(unit))) else {
+            return Err(Stop::Memory);
+        };
+        rest = after;
+    }
+    Ok(vals)
+}
+
 /// The values of bytes, after their opening quote.
 fn byte_values(alloc: Global, body: &[u8]) -> Result<Vals, Stop>
-    ensures ok { IfOk result (λ vals. (octets rest : List ℕ) → IsByteString body.now octets rest → vals ≡ byte_trees octets) }
+    ensures ok { IfOk result (λ vals. (octets rest : List ℕ) → IsByteString body.now octets rest → vals ≡ unit_trees octets) }
     ensures err { IfErr result (λ e. e ≡ stop.Memory) }
 {
     let mut vals = Vals::new(alloc);

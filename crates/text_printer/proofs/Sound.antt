@@ -15,7 +15,7 @@ use Rattle.nd_value.specs.Agreement.{Agreement}
 use Rattle.nd_value.specs.Nodes.{TypedNode, child_types, child_agreements, first_agreements, rest_agreements, nodes_of}
 use Rattle.nd_value.specs.Misfit.{has_shape, has_range, has_arm}
 use Rattle.text_grammar.specs.declared.version.Version.TheVariants as version
-use Rattle.text_grammar.specs.Written.{Piece, writes_octets, octet_in, octets_in, list_pieces, array_counts, arm_pieces, node_pieces, values_pieces, count_piece, colon, pointer_pieces, text_pieces}
+use Rattle.text_grammar.specs.Written.{Piece, writes_octets, unit_in, units_in, list_pieces, array_counts, arm_pieces, node_pieces, values_pieces, count_piece, colon, pointer_pieces, text_pieces}
 use Rattle.text_grammar.specs.Written.{hex_octet, hex_text, quoted_text, value_text}
 use Rattle.text_grammar.specs.Sound.{is_sound_node, IsSound}
 use Rattle.text_printer.specs.Texts.{byte_text, bytes_text, list_text, counts_text, struct_text, array_text, pipe_text, string_text, arm_text, pointer_text, node_text, texts_of, text_of}
@@ -47,7 +47,7 @@ byte_type (Some (def.Prim Byte)) h = refl
 byte_type _ h = cc
 
 byte_label : (table : Table) (l : Label) (ks : Trees) → has_shape (Some (def.Prim Byte)) l ks ≡ true → has_range is_value table (Some (def.Prim Byte)) l ≡ true
-    → byte_text l ≡ hex_octet (octet_in l)
+    → byte_text l ≡ hex_octet (unit_in l)
 byte_label table (tree.Num (pos b)) ks s r =
     let k : b ≤ 255 = leb-true b 255 (and_parts (int_le (pos 0) (pos b)) (int_le (pos b) (pos 255)) r).1 in
     let w : b < 256 = omega (arith, k) in
@@ -56,7 +56,7 @@ byte_label table (tree.Num (negsuc b)) ks s r = cc
 byte_label table _ ks s r = cc
 
 bytes_are : (table : Table) (elem : ℕ) (ags : List (List Agreement)) (n : ℕ) (ks : Trees) → type_at table elem ≡ Some (def.Prim Byte)
-    → list_all (is_sound_node table) (nodes_of table (replicate (count ks) elem) ags n ks) ≡ true → bytes_text ks ≡ hex_text (octets_in ks)
+    → list_all (is_sound_node table) (nodes_of table (replicate (count ks) elem) ags n ks) ≡ true → bytes_text ks ≡ hex_text (units_in ks)
 bytes_are table elem ags n none e h = refl
 bytes_are table elem ags n (more (node l ks) ts) e h =
     let x : TypedNode = record { node = n; of = elem; agreements = first_agreements ags; label = l; kids = ks } in
@@ -73,10 +73,10 @@ bytes_are table elem ags n (more (node l ks) ts) e h =
 abbrev KidsSound : Table → Option TypeDef → Label → Trees → Type 0
 KidsSound table d l ks = (ags : List (List Agreement)) × ((n : ℕ) × (list_all (is_sound_node table) (nodes_of table (child_types d l ks) ags n ks) ≡ true))
 
-list_item : (b : Bool) (ks : Trees) (ps : List (List Piece)) (ss : List (List ℕ)) → (b ≡ true → bytes_text ks ≡ hex_text (octets_in ks)) → AreItems ps ss
+list_item : (b : Bool) (ks : Trees) (ps : List (List Piece)) (ss : List (List ℕ)) → (b ≡ true → bytes_text ks ≡ hex_text (units_in ks)) → AreItems ps ss
     → IsItem (list_pieces b ks ps) (list_text b ks ss)
 list_item true ks ps ss e a =
-    subst (λ (x : List ℕ). IsItem (list_pieces true ks ps) (codes "x\"" ++ (x ++ codes "\""))) (sym (e refl)) (bytes_item (octets_in ks))
+    subst (λ (x : List ℕ). IsItem (list_pieces true ks ps) (codes "x\"" ++ (x ++ codes "\""))) (sym (e refl)) (bytes_item (units_in ks))
 list_item false ks ps ss e a = elements_item ps ss a
 
 struct_node : (table : Table) (d : Option TypeDef) (ks : Trees) (ps : List (List Piece)) (ss : List (List ℕ)) → has_shape d tree.Rec ks ≡ true → AreItems ps ss
@@ -97,7 +97,7 @@ counted None true max offset p s i =
     subst (λ (x : List ℕ). IsItem (count_piece max ∷ colon ∷ count_piece offset ∷ colon ∷ p) x) (sym e) (numbered_item (pos max) _ _ inner)
 
 elements_are : (table : Table) (elem : ℕ) (ks : Trees) → (ags : List (List Agreement)) × ((n : ℕ) × (list_all (is_sound_node table) (nodes_of table (replicate (count ks) elem) ags n ks) ≡ true))
-    → writes_octets version.Two (type_at table elem) ≡ true → bytes_text ks ≡ hex_text (octets_in ks)
+    → writes_octets version.Two (type_at table elem) ≡ true → bytes_text ks ≡ hex_text (units_in ks)
 elements_are table elem ks k w = bytes_are table elem k.0 k.1.0 ks (byte_type (type_at table elem) w) k.1.1
 
 array_node : (table : Table) (d : Option TypeDef) (max offset : ℕ) (ks : Trees) (ps : List (List Piece)) (ss : List (List ℕ))

@@ -1,3 +1,4 @@
+pub mod SeenForms
 pub mod Texts
 pub mod Walks
 pub mod Steps

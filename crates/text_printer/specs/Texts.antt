@@ -1,5 +1,5 @@
--- The text of a value, put together from the texts of its parts: version 2 of the value text. That these are the tokens of the value
--- with the canonical blanks between them is proved of values that break no rule by themselves.
+-- The text of a value, put together from the texts of its parts: in version 2 of the value text, or 3 where the interface has
+-- letters. That these are the tokens of the value with the canonical blanks between them is proved of values that break no rule by themselves.
 -- `d` is a type, `t` a type's number, `l` a node's label, `ks` are its children, `x` is a text, `i` the place of a value in a list.
 use Rattle.std.specs.Prelude.{ℕ, zero, suc, pos, Bool, true, false, nat_lt, if◌then◌else◌, List, [], ◌∷◌, ◌++◌, Option, None, Some, codes, decimal}
 use Rattle.std.specs.Fmt.{signed_decimal}
@@ -13,7 +13,7 @@ use Rattle.nd_value.specs.Tree as tree
 use Rattle.nd_value.specs.Tree.{Tree, Trees, node, none, more, Label, Referent}
 use Rattle.nd_value.specs.Nodes.{child_types}
 use Rattle.text_grammar.specs.declared.version.Version.TheVariants as version
-use Rattle.text_grammar.specs.Written.{writes_octets, side_word, hex_octet, quoted_text, uuid_text}
+use Rattle.text_grammar.specs.Written.{ListForm, InBrackets, AsBytes, AsLetters, list_form, side_word, hex_octet, escaped_letter, quoted_text, uuid_text}
 
 -- ## Lists
 
@@ -44,10 +44,27 @@ abbrev pub bytes_text : Trees → List ℕ
 bytes_text none = []
 bytes_text (more t ts) = byte_of t ++ bytes_text ts
 
--- the elements of an array or a pipe: values in brackets, or the digits of bytes
-abbrev pub list_text : Bool → Trees → List (List ℕ) → List ℕ
-list_text true ks xs = codes "x\"" ++ (bytes_text ks ++ codes "\"")
-list_text false ks xs = codes "[" ++ (listed 0 xs ++ codes "]")
+-- a number as a letter; what is none has no characters
+abbrev pub letter_text : Label → List ℕ
+letter_text (tree.Num (pos u)) = if nat_lt u 65536 then escaped_letter u else []
+letter_text _ = []
+
+abbrev pub letter_of : Tree → List ℕ
+letter_of (node l ks) = letter_text l
+
+abbrev pub letters_text : Trees → List ℕ
+letters_text none = []
+letters_text (more t ts) = letter_of t ++ letters_text ts
+
+-- how the elements of a list are printed: version 3 is that of each interface with letters, and each other version that is printed has bytes
+abbrev pub printed_form : Option TypeDef → ListForm
+printed_form d = list_form version.Three d
+
+-- the elements of an array or a pipe: values in brackets, the digits of bytes, or letters
+abbrev pub list_text : ListForm → Trees → List (List ℕ) → List ℕ
+list_text InBrackets ks xs = codes "[" ++ (listed 0 xs ++ codes "]")
+list_text AsBytes ks xs = codes "x\"" ++ (bytes_text ks ++ codes "\"")
+list_text AsLetters ks xs = codes "u\"" ++ (letters_text ks ++ codes "\"")
 
 -- ## Nodes, each by its type and the texts of its children; one that has not the form of its type has no text
 
@@ -66,11 +83,11 @@ counts_text bound true max offset = bound_text bound max ++ (decimal offset ++ c
 
 abbrev pub array_text : Table → Option TypeDef → ℕ → ℕ → Trees → List (List ℕ) → List ℕ
 array_text table (Some (def.Array elem bound varying)) max offset ks xs =
-    counts_text bound varying max offset ++ list_text (writes_octets version.Two (type_at table elem.0)) ks xs
+    counts_text bound varying max offset ++ list_text (printed_form (type_at table elem.0)) ks xs
 array_text table _ max offset ks xs = []
 
 abbrev pub pipe_text : Table → Option TypeDef → Trees → List (List ℕ) → List ℕ
-pipe_text table (Some (def.Pipe elem)) ks xs = list_text (writes_octets version.Two (type_at table elem.0)) ks xs
+pipe_text table (Some (def.Pipe elem)) ks xs = list_text (printed_form (type_at table elem.0)) ks xs
 pipe_text table _ ks xs = []
 
 abbrev pub string_text : Option TypeDef → ℕ → List ℕ → List ℕ
@@ -114,9 +131,18 @@ text_of table t (node l ks) = node_text table (type_at table t) l ks (texts_of t
 
 -- ## Lines
 
--- `values 2`, and the operation with its side
-abbrev pub head_text : List ℕ → Side → List ℕ
-head_text name s = codes "values 2\nop " ++ (name ++ (codes " " ++ (side_word s ++ codes "\n")))
+-- the line of the version: 3 where the interface has letters, else 2
+abbrev pub version_text : Bool → List ℕ
+version_text true = codes "values 3\n"
+version_text false = codes "values 2\n"
+
+-- the operation with its side
+abbrev pub op_text : List ℕ → Side → List ℕ
+op_text name s = codes "op " ++ (name ++ (codes " " ++ (side_word s ++ codes "\n")))
+
+-- the version, and the operation with its side
+abbrev pub head_text : Bool → List ℕ → Side → List ℕ
+head_text letters name s = version_text letters ++ op_text name s
 
 -- the line of a root, by its name
 abbrev pub root_text : Table → NamedRoot → Tree → List ℕ

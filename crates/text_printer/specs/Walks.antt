@@ -10,7 +10,7 @@ use Rattle.nd_types.specs.Roots.{NamedRoot}
 use Rattle.nd_value.specs.Tree.{Tree, Trees, Referent, node, none, more, count, flat, Flat, take_trees, drop_trees}
 use Rattle.nd_value.specs.Nodes.{child_types}
 use Rattle.nd_flat.specs.FlatForm.{num_flats, row_values}
-use Rattle.text_printer.specs.Texts.{texts_of, byte_text, listed}
+use Rattle.text_printer.specs.Texts.{texts_of, byte_text, letter_text, listed}
 
 -- values of these types come next, and each node has as many children as its type says
 abbrev pub Begins : Table → List ℕ → Trees → Type 0
@@ -60,6 +60,15 @@ nodes_digits (f ∷ fs) = byte_text f.0 ++ nodes_digits fs
 -- octets as the digits of as many bytes
 abbrev pub octets_digits : Order → List ℕ → List ℕ
 octets_digits o os = nodes_digits (num_flats (row_values o Byte (length os) os))
+
+-- nodes as the characters of letters
+abbrev pub nodes_letters : List Flat → List ℕ
+nodes_letters [] = []
+nodes_letters (f ∷ fs) = letter_text f.0 ++ nodes_letters fs
+
+-- the characters of so many nodes are written, and the walk has passed them
+abbrev pub WritesLetters : ℕ → List ℕ → Trees → List ℕ → Trees → Type 0
+WritesLetters n text walk text' walk' = (text' ≡ text ++ nodes_letters (take n (flat walk))) × (flat walk' ≡ drop n (flat walk))
 
 -- The digits of so many nodes are written, and the walk has passed them.
 abbrev pub WritesBytes : ℕ → List ℕ → Trees → List ℕ → Trees → Type 0

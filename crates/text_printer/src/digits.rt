@@ -2,8 +2,8 @@
 ghost use Rattle.std.specs.Prelude.{◌≡◌, ◌++◌, ◌∷◌, [], ℤ, length, OnOk, decimal, flat_map};
 ghost use Rattle.std.specs.Fmt.{signed_decimal};
 ghost use Rattle.nd_value.specs.Tree as tree;
-ghost use Rattle.text_grammar.specs.Written.{hex_octet, hex_text, uuid_text};
-ghost use Rattle.text_printer.specs.Texts.{byte_text};
+ghost use Rattle.text_grammar.specs.Written.{escaped_letter, hex_octet, hex_text, uuid_text};
+ghost use Rattle.text_printer.specs.Texts.{byte_text, letter_text};
 
 use itoa::Buffer;
 use nd_base::text::hex_digit;
@@ -111,4 +111,29 @@ pub(crate) fn append_byte(text: &mut Octets, value: i128) -> Result<(), Memory>
         Ok(octet) => append_hex(text, octet),
         Err(_) => Ok(()),
     }
+}
+
+/// A number from 0 to 65,535 as a letter; another has none.
+pub(crate) fn append_letter(text: &mut Octets, value: i128) -> Result<(), Memory>
+    ensures { OnOk result (text.new ≡ text.old ++ letter_text (tree.Num value)) }
+{
+    match u16::try_from(value) {
+        Ok(unit) => append_unit(text, unit),
+        Err(_) => Ok(()),
+    }
+}
+
+/// A unit of letters: from 0x20 to 0x7E as it is, except that a quote and a backslash come after a backslash; any other as `\uHHHH`.
+fn append_unit(text: &mut Octets, unit: u16) -> Result<(), Memory>
+    ensures { OnOk result (text.new ≡ text.old ++ escaped_letter unit) }
+{
+    if unit == 0x22 || unit == 0x5c {
+        return text.append(&[b'\\', unit as u8]);
+    }
+    if 0x20 <= unit && unit <= 0x7e {
+        return text.append(&[unit as u8]);
+    }
+    text.append(b"\\u")?;
+    append_hex(text, (unit / 256) as u8)?;
+    append_hex(text, (unit % 256) as u8)
 }

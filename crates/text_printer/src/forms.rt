@@ -5,9 +5,8 @@ ghost use Rattle.nd_value.specs.Tree as tree;
 ghost use Rattle.nd_value.specs.Tree.{none};
 ghost use Rattle.nd_value.specs.Nodes.{child_types, selected_types};
 ghost use Rattle.nd_value.specs.Seen.{cell_number};
-ghost use Rattle.text_grammar.specs.declared.version.Version.TheVariants as version;
-ghost use Rattle.text_grammar.specs.Written.{writes_octets};
-ghost use Rattle.text_printer.specs.Texts.{separator, bound_text, counts_text, string_text, pointer_text, context_text};
+ghost use Rattle.text_printer.specs.SeenForms.{seen_form};
+ghost use Rattle.text_printer.specs.Texts.{separator, bound_text, counts_text, string_text, pointer_text, context_text, printed_form};
 
 use crate::digits::append_uuid;
 use crate::quoting::append_quoted;
@@ -111,13 +110,25 @@ pub fn append_context(text: &mut Octets, attributes: u32, id: &Uuid) -> Result<(
     text.append(b")")
 }
 
-/// Whether elements of a type are written as bytes.
-pub(crate) fn are_bytes(types: &Types, elem: TypeId) -> bool
-    ensures { result ≡ writes_octets version.Two (type_at types.now elem.0) }
+/// How the elements of a list are written.
+#[derive(Clone, Copy, Debug, PartialEq, Eq)]
+pub(crate) enum ListForm {
+    /// As values in brackets.
+    InBrackets,
+    /// As the digits of bytes, after `x`.
+    AsBytes,
+    /// As letters, after `u`.
+    AsLetters,
+}
+
+/// How elements of a type are written.
+pub(crate) fn list_form(types: &Types, elem: TypeId) -> ListForm
+    ensures { seen_form result ≡ printed_form (type_at types.now elem.0) }
 {
     match types.get(elem.0 as usize) {
-        Some(TypeDef::Prim(prim)) => *prim == Prim::Byte,
-        _ => false,
+        Some(TypeDef::Prim(Prim::Byte)) => ListForm::AsBytes,
+        Some(TypeDef::Prim(Prim::Letter)) => ListForm::AsLetters,
+        _ => ListForm::InBrackets,
     }
 }
 

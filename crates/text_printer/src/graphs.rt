@@ -6,10 +6,9 @@ ghost use Rattle.nd_types.specs.Roots.{named_roots, root_value};
 ghost use Rattle.nd_value.specs.Fitting.{setting_beside};
 ghost use Rattle.nd_value.specs.Seen.{tree_of};
 ghost use Rattle.nd_value.specs.Tree.{Tree, more, none, Referent};
-ghost use Rattle.text_grammar.specs.declared.version.Version.TheVariants as version;
-ghost use Rattle.text_grammar.specs.Written.{IsText, value_text, side_word};
+ghost use Rattle.text_grammar.specs.Written.{IsText, value_text, version_for, side_word};
 ghost use Rattle.text_grammar.specs.Sound.{IsSound};
-ghost use Rattle.text_printer.specs.Texts.{head_text, root_text, roots_text, cell_text, cells_text};
+ghost use Rattle.text_printer.specs.Texts.{version_text, op_text, root_text, roots_text, cell_text, cells_text};
 ghost use Rattle.text_printer.specs.Walks.{Begins, RootsBegin, CellsBegin};
 
 use crate::digits::append_place;
@@ -18,12 +17,12 @@ use crate::walked::append_next;
 use nd_base::{Memory, Octets};
 use nd_flat::{Fit, FlatGraph, Walk};
 use nd_graph::canonical;
-use nd_types::{Interface, RootDef, Side, TypeId, Types};
+use nd_types::{Interface, RootDef, Side, TypeId, Types, has_letters};
 use nd_value::Val;
 use std::alloc::Global;
 
-/// The text of a graph, version 2 of the value text: `values 2`, the operation with its side, a line for each root, and a line for each
-/// cell. It is the canonical graph that is printed, whose cells are numbered in the order in which the stream names them: so two
+/// The text of a graph: `values 2`, or `values 3` where the interface has letters, the operation with its side, a line for each root, and
+/// a line for each cell. It is the canonical graph that is printed, whose cells are numbered in the order in which the stream names them: so two
 /// graphs of one side have one text exactly if they are the same up to the numbers of their cells.
 ///
 /// The interface must be the one that the fit is tied to. It takes memory for the text and for the canonical graph; out of memory is the
@@ -42,13 +41,14 @@ pub fn print(alloc: Global, interface: &Interface, fit: &Fit) -> Result<Octets, 
     let numbered = canonical(alloc, fit)?;
     let graph = numbered.flat();
     let mut text = Octets::new(alloc);
+    append_version(&mut text, has_letters(&interface.types))?;
     append_head(&mut text, operation.name.as_slice(), side)?;
     append_roots(&mut text, interface, op, side, graph)?;
     append_cells(&mut text, &interface.types, graph)?;
     Ok(text)
 }
 
-/// The text of one value of a type, as it is in the text of a graph, without a line feed: version 2 of the value text.
+/// The text of one value of a type, as it is in the text of a graph, without a line feed.
 ///
 /// The value must break no rule by itself: each node has the form of its type, each number and each tag is a value of its type, counts are
 /// within their bounds, no text has a zero, and each tag selects an arm. Which cells pointers name is not asked, and numbers of cells
@@ -62,7 +62,7 @@ pub fn print_value(
     val: &Val,
 ) -> Result<Octets, Memory>
     requires { IsSound interface.now.types of.0 (tree_of val.now) }
-    ensures { IfOk result (λ text. text ≡ value_text version.Two interface.now.types of.0 (tree_of val.now)) }
+    ensures { IfOk result (λ text. text ≡ value_text (version_for interface.now.types) interface.now.types of.0 (tree_of val.now)) }
 {
     let mut text = Octets::new(alloc);
     append_value_text(&mut text, interface, of, val)?;
@@ -81,17 +81,29 @@ pub fn append_value_text(
     val: &Val,
 ) -> Result<(), Memory>
     requires { IsSound interface.now.types of.0 (tree_of val.now) }
-    ensures { OnOk result (text.new ≡ text.old ++ value_text version.Two interface.now.types of.0 (tree_of val.now)) }
+    ensures { OnOk result
+        (text.new ≡ text.old ++ value_text (version_for interface.now.types) interface.now.types of.0 (tree_of val.now)) }
 {
     append_value(text, &interface.types, of, val)?;
     Ok(())
 }
 
-/// `values 2`, and the operation with its side.
-fn append_head(text: &mut Octets, name: &[u8], side: Side) -> Result<(), Memory>
-    ensures { OnOk result (text.new ≡ text.old ++ head_text name.now side) }
+/// The line of the version: 3 where the interface has letters, else 2.
+fn append_version(text: &mut Octets, letters: bool) -> Result<(), Memory>
+    ensures { OnOk result (text.new ≡ text.old ++ version_text letters) }
 {
-    text.append(b"values 2\nop ")?;
+    if letters {
+        text.append(b"values 3\n")
+    } else {
+        text.append(b"values 2\n")
+    }
+}
+
+/// The operation with its side.
+fn append_head(text: &mut Octets, name: &[u8], side: Side) -> Result<(), Memory>
+    ensures { OnOk result (text.new ≡ text.old ++ op_text name.now side) }
+{
+    text.append(b"op ")?;
     text.append(name)?;
     text.append(b" ")?;
     text.append(side_name(side))?;

@@ -5,11 +5,11 @@ ghost use Rattle.nd_base.specs.declared.octets.Order.{Order as Orders};
 ghost use Rattle.nd_types.specs.Number.{value_of_octets};
 ghost use Rattle.nd_types.specs.Table.{width};
 ghost use Rattle.nd_flat.specs.FlatForm.{IsRow, num_flats, row_numbers};
-ghost use Rattle.text_printer.specs.Texts.{byte_text};
-ghost use Rattle.text_printer.specs.Walks.{numbers_text, nodes_digits, octets_digits};
+ghost use Rattle.text_printer.specs.Texts.{byte_text, letter_text};
+ghost use Rattle.text_printer.specs.Walks.{numbers_text, nodes_digits, nodes_letters, octets_digits};
 ghost use Rattle.nd_value.specs.Tree as tree;
 
-use crate::digits::{append_byte, append_hexes, append_number};
+use crate::digits::{append_byte, append_hexes, append_letter, append_number};
 use crate::forms::append_separator;
 use nd_base::{Memory, Octets, Order};
 use nd_flat::Row;
@@ -76,4 +76,25 @@ fn append_as_byte(text: &mut Octets, order: Order, of: Prim, octets: &[u8]) -> R
     ensures { OnOk result (text.new ≡ text.old ++ byte_text (tree.Num (value_of_octets order of octets.now))) }
 {
     append_byte(text, read_num(order, of, octets))
+}
+
+/// The numbers of a row as letters.
+pub(crate) fn append_letter_row(text: &mut Octets, row: &Row<'_>) -> Result<(), Memory>
+    requires { IsRow row.now }
+    ensures { OnOk result (text.new ≡ text.old ++ nodes_letters (num_flats (row_numbers row.now))) }
+{
+    let wide = width_of(row.of);
+    for turn in 0..row.count as usize {
+        let from = turn * wide;
+        append_as_letter(text, row.order, row.of, &row.octets[from..from + wide])?;
+    }
+    Ok(())
+}
+
+/// The number that octets hold, as a letter.
+fn append_as_letter(text: &mut Octets, order: Order, of: Prim, octets: &[u8]) -> Result<(), Memory>
+    requires { length octets.now ≡ width of }
+    ensures { OnOk result (text.new ≡ text.old ++ letter_text (tree.Num (value_of_octets order of octets.now))) }
+{
+    append_letter(text, read_num(order, of, octets))
 }

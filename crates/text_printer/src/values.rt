@@ -5,15 +5,14 @@ ghost use Rattle.nd_value.specs.Tree as tree;
 ghost use Rattle.nd_value.specs.Tree.{trees, count};
 ghost use Rattle.nd_value.specs.Nodes.{child_types};
 ghost use Rattle.nd_value.specs.Seen.{tree_of};
-ghost use Rattle.text_grammar.specs.declared.version.Version.TheVariants as version;
-ghost use Rattle.text_grammar.specs.Written.{writes_octets};
-ghost use Rattle.text_printer.specs.Texts.{text_of, texts_of, listed, member_texts, bytes_text, byte_of, list_text, struct_text, array_text};
+ghost use Rattle.text_grammar.specs.Written.{InBrackets};
+ghost use Rattle.text_printer.specs.Texts.{text_of, texts_of, listed, member_texts, bytes_text, byte_of, letters_text, letter_of, list_text, printed_form, struct_text, array_text};
 ghost use Rattle.text_printer.specs.Texts.{pipe_text, arm_text};
 
-use crate::digits::{append_byte, append_number};
+use crate::digits::{append_byte, append_letter, append_number};
 use crate::forms::{
     append_context, append_counts, append_name, append_pointer, append_separator, append_string,
-    are_bytes, arm_type,
+    ListForm, arm_type, list_form,
 };
 use nd_base::{Memory, Octets};
 use nd_types::{Fields, TypeDef, TypeId, Types};
@@ -127,20 +126,74 @@ fn append_pipe(text: &mut Octets, types: &Types, of: TypeId, vals: &Vals) -> Res
     }
 }
 
-/// Elements of an array or a pipe: in brackets, or bytes as digits.
+/// Elements of an array or a pipe: in brackets, bytes as digits, or letters.
 #[cycle(values)]
 fn append_list(text: &mut Octets, types: &Types, elem: TypeId, vals: &Vals) -> Result<(), Memory>
-    ensures { OnOk result (text.new ≡ text.old ++ list_text (writes_octets version.Two (type_at types.now elem.0)) (trees vals.now)
+    ensures { OnOk result (text.new ≡ text.old ++ list_text (printed_form (type_at types.now elem.0)) (trees vals.now)
         (texts_of types.now (replicate (count (trees vals.now)) elem.0) (trees vals.now))) }
 {
-    if are_bytes(types, elem) {
-        text.append(b"x\"")?;
-        append_bytes(text, vals)?;
-        return text.append(b"\"");
+    match list_form(types, elem) {
+        ListForm::AsBytes => append_byte_list(text, vals),
+        ListForm::AsLetters => append_letter_list(text, vals),
+        ListForm::InBrackets => append_brackets(text, types, elem, vals),
     }
+}
+
+/// Elements in brackets.
+#[cycle(values)]
+fn append_brackets(
+    text: &mut Octets,
+    types: &Types,
+    elem: TypeId,
+    vals: &Vals,
+) -> Result<(), Memory>
+    ensures { OnOk result (text.new ≡ text.old ++ list_text InBrackets (trees vals.now)
+        (texts_of types.now (replicate (count (trees vals.now)) elem.0) (trees vals.now))) }
+{
     text.append(b"[")?;
     append_elements(text, types, elem, vals)?;
     text.append(b"]")
+}
+
+/// Bytes as digits after `x`, in quotes.
+fn append_byte_list(text: &mut Octets, vals: &Vals) -> Result<(), Memory>
+    ensures { OnOk result (text.new ≡ text.old ++ (codes "x\"" ++ (bytes_text (trees vals.now) ++ codes "\""))) }
+{
+    text.append(b"x\"")?;
+    append_bytes(text, vals)?;
+    text.append(b"\"")
+}
+
+/// Letters after `u`, in quotes.
+fn append_letter_list(text: &mut Octets, vals: &Vals) -> Result<(), Memory>
+    ensures { OnOk result (text.new ≡ text.old ++ (codes "u\"" ++ (letters_text (trees vals.now) ++ codes "\""))) }
+{
+    text.append(b"u\"")?;
+    append_letters(text, vals)?;
+    text.append(b"\"")
+}
+
+/// Letters as characters.
+fn append_letters(text: &mut Octets, vals: &Vals) -> Result<(), Memory>
+    ensures { OnOk result (text.new ≡ text.old ++ letters_text (trees vals.now)) }
+{
+    for at in 0..vals.len() {
+        let Some(val) = vals.get(at) else {
+            unreachable!()
+        };
+        append_letter_of(text, val)?;
+    }
+    Ok(())
+}
+
+/// The characters of a value that is a letter; another has none.
+fn append_letter_of(text: &mut Octets, val: &Val) -> Result<(), Memory>
+    ensures { OnOk result (text.new ≡ text.old ++ letter_of (tree_of val.now)) }
+{
+    match val {
+        Val::Num(value) => append_letter(text, *value),
+        _ => Ok(()),
+    }
 }
 
 /// Elements, with a comma between each two.

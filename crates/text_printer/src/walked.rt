@@ -6,17 +6,16 @@ ghost use Rattle.nd_value.specs.Tree as tree;
 ghost use Rattle.nd_value.specs.Tree.{Trees, flat, take_trees};
 ghost use Rattle.nd_value.specs.Nodes.{child_types};
 ghost use Rattle.nd_flat.specs.FlatForm.{flat_seen};
-ghost use Rattle.text_grammar.specs.declared.version.Version.TheVariants as version;
-ghost use Rattle.text_grammar.specs.Written.{writes_octets};
-ghost use Rattle.text_printer.specs.Texts.{listed, member_texts, list_text, struct_text, array_text, pipe_text, arm_text, node_text};
-ghost use Rattle.text_printer.specs.Walks.{Writes, WritesSome, WritesBytes, HasNext, first_text};
+ghost use Rattle.text_grammar.specs.Written.{InBrackets};
+ghost use Rattle.text_printer.specs.Texts.{listed, member_texts, list_text, printed_form, struct_text, array_text, pipe_text, arm_text, node_text};
+ghost use Rattle.text_printer.specs.Walks.{Writes, WritesSome, WritesBytes, WritesLetters, nodes_digits, nodes_letters, HasNext, first_text};
 
-use crate::digits::{append_byte, append_number};
+use crate::digits::{append_byte, append_letter, append_number};
 use crate::forms::{
     append_context, append_counts, append_name, append_pointer, append_separator, append_string,
-    are_bytes, arm_type,
+    ListForm, arm_type, list_form,
 };
-use crate::rows::{append_numbers, append_row};
+use crate::rows::{append_letter_row, append_numbers, append_row};
 use nd_base::{Memory, Octets};
 use nd_flat::{Seen, Walk};
 use nd_types::{Fields, TypeDef, TypeId, Types};
@@ -161,7 +160,7 @@ fn append_pipe(
     }
 }
 
-/// So many elements of an array or a pipe: in brackets, or bytes as digits.
+/// So many elements of an array or a pipe: in brackets, bytes as digits, or letters.
 #[cycle(walked)]
 fn append_list(
     text: &mut Octets,
@@ -170,18 +169,93 @@ fn append_list(
     count: u32,
     walk: &mut Walk<'_>,
 ) -> Result<(), Memory>
-    ensures text { let octets = writes_octets version.Two (type_at types.now elem.0) in
-        OnOk result (Writes types.now (replicate count elem.0) (list_text octets (take_trees count walk.old)) text.old walk.old text.new walk.new) }
+    ensures text { let form = printed_form (type_at types.now elem.0) in
+        OnOk result (Writes types.now (replicate count elem.0) (list_text form (take_trees count walk.old)) text.old walk.old text.new walk.new) }
     ensures fewer { OnOk result (length (flat walk.new) ≤ length (flat walk.old)) }
 {
-    if are_bytes(types, elem) {
-        text.append(b"x\"")?;
-        append_bytes(text, count, walk)?;
-        return text.append(b"\"");
+    match list_form(types, elem) {
+        ListForm::AsBytes => append_byte_list(text, count, walk),
+        ListForm::AsLetters => append_letter_list(text, count, walk),
+        ListForm::InBrackets => append_brackets(text, types, elem, count, walk),
     }
+}
+
+/// So many elements in brackets.
+#[cycle(walked)]
+fn append_brackets(
+    text: &mut Octets,
+    types: &Types,
+    elem: TypeId,
+    count: u32,
+    walk: &mut Walk<'_>,
+) -> Result<(), Memory>
+    ensures text { OnOk result (Writes types.now (replicate count elem.0) (list_text InBrackets (take_trees count walk.old))
+        text.old walk.old text.new walk.new) }
+    ensures fewer { OnOk result (length (flat walk.new) ≤ length (flat walk.old)) }
+{
     text.append(b"[")?;
     append_elements(text, types, elem, count, walk)?;
     text.append(b"]")
+}
+
+/// So many bytes as digits after `x`, in quotes.
+fn append_byte_list(text: &mut Octets, count: u32, walk: &mut Walk<'_>) -> Result<(), Memory>
+    ensures text { OnOk result (text.new ≡ text.old ++ (codes "x\"" ++ (nodes_digits (take count (flat walk.old)) ++ codes "\""))) }
+    ensures walk { OnOk result (flat walk.new ≡ drop count (flat walk.old)) }
+{
+    text.append(b"x\"")?;
+    append_bytes(text, count, walk)?;
+    text.append(b"\"")
+}
+
+/// So many letters after `u`, in quotes.
+fn append_letter_list(text: &mut Octets, count: u32, walk: &mut Walk<'_>) -> Result<(), Memory>
+    ensures text { OnOk result (text.new ≡ text.old ++ (codes "u\"" ++ (nodes_letters (take count (flat walk.old)) ++ codes "\""))) }
+    ensures walk { OnOk result (flat walk.new ≡ drop count (flat walk.old)) }
+{
+    text.append(b"u\"")?;
+    append_letters(text, count, walk)?;
+    text.append(b"\"")
+}
+
+/// So many letters as characters.
+fn append_letters(text: &mut Octets, count: u32, walk: &mut Walk<'_>) -> Result<(), Memory>
+    ensures { OnOk result (WritesLetters count text.old walk.old text.new walk.new) }
+{
+    let mut done = 0;
+    for _turn in 0..count {
+        if done >= count {
+            return Ok(());
+        }
+        let some = append_some_letters(text, count - done, walk)?;
+        done += some;
+    }
+    Ok(())
+}
+
+/// The next letters, at least one and at most `most`: those that are kept side by side in one go. It gives how many.
+fn append_some_letters(text: &mut Octets, most: u32, walk: &mut Walk<'_>) -> Result<u32, Memory>
+    requires { 0 < most }
+    ensures some { IfOk result (λ k. 0 < k) }
+    ensures most { IfOk result (λ k. k ≤ most) }
+    ensures text { IfOk result (λ k. WritesLetters k text.old walk.old text.new walk.new) }
+{
+    if let Some(row) = walk.row(most) {
+        append_letter_row(text, &row)?;
+        return Ok(row.count);
+    }
+    append_next_letter(text, walk)?;
+    Ok(1)
+}
+
+/// The characters of the next node, if it is a letter.
+fn append_next_letter(text: &mut Octets, walk: &mut Walk<'_>) -> Result<(), Memory>
+    ensures { OnOk result (WritesLetters 1 text.old walk.old text.new walk.new) }
+{
+    match walk.step() {
+        Some(Seen::Num(value)) => append_letter(text, value),
+        _ => Ok(()),
+    }
 }
 
 /// So many elements, with a comma between each two.

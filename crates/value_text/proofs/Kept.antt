@@ -10,9 +10,9 @@ use Rattle.nd_value.specs.Misfit.{is_octet}
 use Rattle.text_grammar.specs.declared.version.Version.{Version}
 use Rattle.text_grammar.specs.declared.version.Version.TheVariants as version
 use Rattle.text_grammar.specs.Tokens.{Token, Word, Number, Cell, Str, Bytes, Uuid, Mark, Spells, Cutting, cutting, IsCut, Begins, is_uuid, is_bytes, begins_bytes, skip, is_mark, ends_run, uuid_due}
-use Rattle.text_grammar.specs.Tokens.{is_version_two, after}
+use Rattle.text_grammar.specs.Tokens.{has_version (pos 2), after}
 use Rattle.text_grammar.specs.Written.{Piece, token_of, is_equals, is_comma, is_run, space, spelled, tokens_text, line_text}
-use Rattle.text_grammar.specs.Settled.{is_two, IsSettled, is_simple}
+use Rattle.text_grammar.specs.Settled.{has_bytes, IsSettled, is_simple}
 use Rattle.text_grammar.proofs.Settled.{settled_next, cutting_ctx_1, cutting_ctx_2, cutting_ctx_3, cutting_ctx_4, cutting_ctx_5, settled_ctx_6}
 use Rattle.value_text.proofs.Spelled.{IsToken, no_quote_first, token_cut}
 
@@ -41,7 +41,7 @@ run_before (u ∷ before) = is_run u
 abbrev pub AreTokens : List Token → List Token → Type 0
 AreTokens before [] = Unit {0}
 AreTokens before (t ∷ ts) =
-    IsToken t × (uuid_due before ≡ is_uuid t) × (is_bytes t ≡ true → is_version_two before ≡ true) × ((run_before before && is_string t) ≡ false) × AreTokens (t ∷ before) ts
+    IsToken t × (uuid_due before ≡ is_uuid t) × (is_bytes t ≡ true → has_version (pos 2) before ≡ true) × ((run_before before && is_string t) ≡ false) × AreTokens (t ∷ before) ts
 
 -- so it is after all tokens after which the version is known and no UUID is due; and then it is so again
 abbrev pub Kept : Version → List Token → Type 0
@@ -59,7 +59,7 @@ no_uuid_token (Bytes octets) s = refl
 no_uuid_token (Uuid id) s = cc
 no_uuid_token (Mark m) s = refl
 
-pub kept_more : (v : Version) (t : Token) (ts : List Token) → IsToken t → is_simple t ≡ true → (is_bytes t ≡ true → is_two v ≡ true) → (is_run t && starts_string ts) ≡ false → Kept v ts
+pub kept_more : (v : Version) (t : Token) (ts : List Token) → IsToken t → is_simple t ≡ true → (is_bytes t ≡ true → has_bytes v ≡ true) → (is_run t && starts_string ts) ≡ false → Kept v ts
     → Kept v (t ∷ ts)
 kept_more v t ts h s b j k before c i =
     let r = k (t ∷ before) (settled_next v t before s c) j in
@@ -99,25 +99,25 @@ kept_context v n id few long octets before c j =
         j,
         (
           refl,
-          due (cutting (Word (codes "ctx") ∷ before)) (is_two v) false (cutting_ctx_1 v before c),
+          due (cutting (Word (codes "ctx") ∷ before)) (has_bytes v) false (cutting_ctx_1 v before c),
           (λ x. cc),
           refl,
           (
             omega (arith, few),
-            due (cutting (Mark 40 ∷ Word (codes "ctx") ∷ before)) (is_two v) false (cutting_ctx_2 v before c),
+            due (cutting (Mark 40 ∷ Word (codes "ctx") ∷ before)) (has_bytes v) false (cutting_ctx_2 v before c),
             (λ x. cc),
             refl,
             (
               refl,
-              due (cutting (Number (pos n) ∷ Mark 40 ∷ Word (codes "ctx") ∷ before)) (is_two v) false (cutting_ctx_3 v before c (pos n)),
+              due (cutting (Number (pos n) ∷ Mark 40 ∷ Word (codes "ctx") ∷ before)) (has_bytes v) false (cutting_ctx_3 v before c (pos n)),
               (λ x. cc),
               refl,
               (
                 (long, octets),
-                due (cutting (Mark 44 ∷ Number (pos n) ∷ Mark 40 ∷ Word (codes "ctx") ∷ before)) (is_two v) true (cutting_ctx_4 v before c (pos n)),
+                due (cutting (Mark 44 ∷ Number (pos n) ∷ Mark 40 ∷ Word (codes "ctx") ∷ before)) (has_bytes v) true (cutting_ctx_4 v before c (pos n)),
                 (λ x. cc),
                 refl,
-                (refl, due (cutting (Uuid id ∷ Mark 44 ∷ Number (pos n) ∷ Mark 40 ∷ Word (codes "ctx") ∷ before)) (is_two v) false (cutting_ctx_5 v before c (pos n) id), (λ x. cc), refl, tt),
+                (refl, due (cutting (Uuid id ∷ Mark 44 ∷ Number (pos n) ∷ Mark 40 ∷ Word (codes "ctx") ∷ before)) (has_bytes v) false (cutting_ctx_5 v before c (pos n) id), (λ x. cc), refl, tt),
               ),
             ),
           ),

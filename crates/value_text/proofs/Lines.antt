@@ -28,11 +28,11 @@ use Rattle.text_grammar.specs.declared.version.Version.{Version}
 use Rattle.text_grammar.specs.declared.version.Version.TheVariants as version
 use Rattle.text_grammar.specs.declared.TheConstants.{TEXT_LIMIT}
 use Rattle.text_grammar.specs.Tokens.{Token, Word, Number, Cell, Str, Bytes, Mark, is_bytes, is_mark}
-use Rattle.text_grammar.specs.Written.{Piece, Name, Other, word, token_of, separated, enclosed, named, members, octet_in, octets_in, writes_octets, list_pieces, array_counts, node_pieces}
+use Rattle.text_grammar.specs.Written.{Piece, Name, Other, word, token_of, separated, enclosed, named, members, unit_in, units_in, writes_octets, list_pieces, array_counts, node_pieces}
 use Rattle.text_grammar.specs.Written.{values_pieces, value_pieces, version_number, side_word, root_name, head_lines, root_lines, cell_lines, graph_lines, graph_tokens, is_run, tokens_text}
 use Rattle.text_grammar.specs.Written.{graph_text}
 use Rattle.text_grammar.specs.Reads.{has_maximum, has_offset, may_be_elements, is_octet_number, are_octets, has_text_form, IsReadable, ReadsAs}
-use Rattle.text_grammar.specs.Settled.{is_two, IsSettled, is_simple}
+use Rattle.text_grammar.specs.Settled.{has_bytes, IsSettled, is_simple}
 use Rattle.text_grammar.specs.Values.{have_forms}
 use Rattle.text_grammar.proofs.Forms.{Form, form_of, a_number, an_enum, a_struct, an_array, a_bound_text, a_text, a_union, a_null, a_pointer, a_context, a_pipe}
 use Rattle.text_grammar.proofs.Nodes.{RootsFormed, CellsFormed, readable_formed}
@@ -81,7 +81,7 @@ module _ (v : Version) where
       kept_pieces x (Other (Mark 44) ∷ separated (u ∷ xs)) refl h.0
       (kept_more v (Mark 44) (map token_of (separated (u ∷ xs))) refl refl (λ b. cc) refl (separated_kept (u ∷ xs) h.1))
 
-  one_kept : (t : Token) → IsToken t → is_simple t ≡ true → (is_bytes t ≡ true → is_two v ≡ true) → KeptPieces v (Other t ∷ [])
+  one_kept : (t : Token) → IsToken t → is_simple t ≡ true → (is_bytes t ≡ true → has_bytes v ≡ true) → KeptPieces v (Other t ∷ [])
   one_kept t h s b = kept_more v t [] h s b (by (is_run t)) (kept_none v) where
     by : (r : Bool) → (r && false) ≡ false
     by true = refl
@@ -104,24 +104,24 @@ module _ (v : Version) where
   count_kept : (n : ℕ) (ps : List Piece) → n < 2 ^ 32 → KeptPieces v ps → KeptPieces v (Other (Number (pos n)) ∷ Other (Mark 58) ∷ ps)
   count_kept n ps few k = kept_more v (Number (pos n)) (Mark 58 ∷ map token_of ps) (omega (arith, few)) refl (λ x. cc) refl (kept_more v (Mark 58) (map token_of ps) refl refl (λ x. cc) refl k)
 
-  octets_are : (ks : Trees) → are_octets ks ≡ true → list_all is_octet (octets_in ks) ≡ true
+  octets_are : (ks : Trees) → are_octets ks ≡ true → list_all is_octet (units_in ks) ≡ true
   octets_are none h = refl
   octets_are (more (node l us) ks) h =
       let p = and_parts (is_octet_number l) (are_octets ks) h in
-      and_from (is_octet (octet_in l)) (list_all is_octet (octets_in ks)) (one l p.0) (octets_are ks p.1)
+      and_from (is_octet (unit_in l)) (list_all is_octet (units_in ks)) (one l p.0) (octets_are ks p.1)
     where
-      one : (l : Label) → is_octet_number l ≡ true → is_octet (octet_in l) ≡ true
+      one : (l : Label) → is_octet_number l ≡ true → is_octet (unit_in l) ≡ true
       one (tree.Num (pos b)) h = h
       one l h = cc
 
-  two_alone : (u : Version) (d : Option TypeDef) → writes_octets u d ≡ true → is_two u ≡ true
+  two_alone : (u : Version) (d : Option TypeDef) → writes_octets u d ≡ true → has_bytes u ≡ true
   two_alone version.Two d h = refl
   two_alone version.One d h = cc
 
   list_kept : (d : Option TypeDef) (ks : Trees) (values : List (List Piece)) → may_be_elements v d ks ≡ true → AllKept values → KeptPieces v (list_pieces (writes_octets v d) ks values)
   list_kept d ks values h k = by (writes_octets v d) refl h where
     by : (b : Bool) → writes_octets v d ≡ b → cond b (are_octets ks) true ≡ true → KeptPieces v (list_pieces b ks values)
-    by true e h = one_kept (Bytes (octets_in ks)) (octets_are ks h) refl (λ x. two_alone v d e)
+    by true e h = one_kept (Bytes (units_in ks)) (octets_are ks h) refl (λ x. two_alone v d e)
     by false e h = enclosed_kept 91 93 values refl refl refl refl k
 
   array_kept : (bound : Option ℕ) (varying : Bool) (max offset : ℕ) (ks : Trees) (ps : List Piece) → has_maximum bound varying max ks ≡ true → has_offset varying offset ≡ true → KeptPieces v ps

@@ -7,7 +7,7 @@ use Rattle.nd_value.specs.Tree.{node, none}
 use Rattle.text_grammar.specs.Tokens.{hex_pair}
 use Rattle.text_grammar.proofs.Quoted.{pair_quote}
 use Rattle.text_parser.proofs.Scanning.{begun, one_more, whole}
-use Rattle.text_parser.specs.ValueParts.{byte_trees}
+use Rattle.text_parser.specs.ValueParts.{unit_trees}
 use Rattle.text_parser.proofs.ByteLists.{byte_more}
 use Rattle.text_parser.proofs.values.byte_values.Goals as goal
 
@@ -27,4 +27,4 @@ loop-octet-preserved c =
 pub returns-clause-ok : goal.returns-clause-ok
 returns-clause-ok c = λ octets end s.
     let i = c.loop-octet.invariant in
-    i.1 ∙ ap byte_trees (whole hex_pair pair_quote c.args.body.now i.0 c.loop-octet.rest.now i.2 (sym c.in_default.ensures.is) octets end s)
+    i.1 ∙ ap unit_trees (whole hex_pair pair_quote c.args.body.now i.0 c.loop-octet.rest.now i.2 (sym c.in_default.ensures.is) octets end s)
