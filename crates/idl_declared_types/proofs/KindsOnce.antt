@@ -16,7 +16,7 @@ use Rattle.idl_rule_definitions.proofs.Needed.{itself}
 use Rattle.idl_declared_types.proofs.KindLists.{stands_at, inside_at, type_at-stands}
 use Rattle.nd_lemmas.proofs.Lists.{all_at as all_get}
 
-pub number_is : (a : ℕ) → ltb a 11 ≡ true → prim_number (primitive_by a) ≡ a
+pub number_is : (a : ℕ) → ltb a 12 ≡ true → prim_number (primitive_by a) ≡ a
 number_is zero h = refl
 number_is (suc zero) h = refl
 number_is (suc (suc zero)) h = refl
@@ -28,8 +28,9 @@ number_is (suc (suc (suc (suc (suc (suc (suc zero))))))) h = refl
 number_is (suc (suc (suc (suc (suc (suc (suc (suc zero)))))))) h = refl
 number_is (suc (suc (suc (suc (suc (suc (suc (suc (suc zero))))))))) h = refl
 number_is (suc (suc (suc (suc (suc (suc (suc (suc (suc (suc zero)))))))))) h = refl
-number_is (suc (suc (suc (suc (suc (suc (suc (suc (suc (suc (suc a))))))))))) h =
-    absurd (let b : suc (suc (suc (suc (suc (suc (suc (suc (suc (suc (suc a)))))))))) < 11 = ltb-true (suc (suc (suc (suc (suc (suc (suc (suc (suc (suc (suc a))))))))))) 11 h in omega (arith, b))
+number_is (suc (suc (suc (suc (suc (suc (suc (suc (suc (suc (suc zero))))))))))) h = refl
+number_is (suc (suc (suc (suc (suc (suc (suc (suc (suc (suc (suc (suc a)))))))))))) h =
+    absurd (let b : suc (suc (suc (suc (suc (suc (suc (suc (suc (suc (suc (suc a))))))))))) < 12 = ltb-true (suc (suc (suc (suc (suc (suc (suc (suc (suc (suc (suc (suc a)))))))))))) 12 h in omega (arith, b))
 
 class_is : (c d : Class) → same_class (seen_class c) (seen_class d) ≡ true → c ≡ d
 class_is class.Absent class.Absent h = refl
@@ -43,7 +44,7 @@ module _ (ks : List Kind) where
   abbrev Inner : ℕ → ℕ → Type 0
   Inner m n = (a b : ℕ) → ltb a m ≡ true → ltb b n ≡ true → same_type (type_at ks a) (type_at ks b) ≡ true → a ≡ b
 
-  same_number : (m n a b : ℕ) → ltb a 11 ≡ true → ltb b 11 ≡ true → eqb (prim_number (primitive_by a)) (prim_number (primitive_by b)) ≡ true → a ≡ b
+  same_number : (m n a b : ℕ) → ltb a 12 ≡ true → ltb b 12 ≡ true → eqb (prim_number (primitive_by a)) (prim_number (primitive_by b)) ≡ true → a ≡ b
   same_number m n a b p q h =
       let e : prim_number (primitive_by a) ≡ prim_number (primitive_by b) = grind (arith, nat_tests, h) in
       sym (number_is a p) ∙ e ∙ number_is b q

@@ -7,6 +7,7 @@ use Rattle.std.proofs.lemmas.List.{map-append, length-set, reverse-append}
 use Rattle.std.proofs.lemmas.Bool.{ltb-true, lt-ltb, and_parts as both, or_right as right}
 use Rattle.std.proofs.lemmas.Bool.Decides.{nat_tests}
 use Rattle.nd_base.specs.declared.octets.Place.{Place}
+use Rattle.nd_types.specs.Kinds.{is_letter_prim, prim_number}
 use Rattle.idl_declared_types.specs.declared.kinds.Kind.{Kind}
 use Rattle.idl_declared_types.specs.declared.kinds.Kind.TheVariants as kind
 use Rattle.idl_declared_types.specs.declared.numbering.Own.{Own}
@@ -275,7 +276,11 @@ numbers_by : (s : Scene) (t : Numbers) (k : ℕ) (u : IdlType) → number_or (ne
 numbers_by s t k Void h = h
 numbers_by s t k Handle h = refl
 numbers_by s t k ContextHandle h = refl
-numbers_by s t k (Basic p) h = refl
+numbers_by s t k (Basic p) h = by (is_letter_prim p) where
+  by : (b : Bool) → elim b [ true ↦ number_or (next_of t) (found_number (slice_get t.numbers.items k)) | false ↦ prim_number p ]
+      ≡ elim b [ true ↦ number_among 12 (own_types s) (Basic p) | false ↦ prim_number p ]
+  by true = h
+  by false = refl
 numbers_by s t k (Struct p) h = h
 numbers_by s t k (Union p) h = h
 numbers_by s t k (Enum p) h = h

@@ -28,7 +28,8 @@ primitive_by (suc (suc (suc (suc (suc (suc zero)))))) = primitive.UnsignedShort
 primitive_by (suc (suc (suc (suc (suc (suc (suc zero))))))) = primitive.Long
 primitive_by (suc (suc (suc (suc (suc (suc (suc (suc zero)))))))) = primitive.UnsignedLong
 primitive_by (suc (suc (suc (suc (suc (suc (suc (suc (suc zero))))))))) = primitive.Hyper
-primitive_by _ = primitive.UnsignedHyper
+primitive_by (suc (suc (suc (suc (suc (suc (suc (suc (suc (suc zero)))))))))) = primitive.UnsignedHyper
+primitive_by _ = primitive.Letter
 
 -- the type of a kind over these types
 abbrev pub type_by : List IdlType → Kind → IdlType
@@ -72,7 +73,7 @@ basic_in _ = None
 
 -- whether the types that a kind is made of are among the first n, and its number is that of a primitive type
 abbrev pub is_inside : ℕ → Kind → Bool
-is_inside n (kind.Basic number) = nat_lt number 11
+is_inside n (kind.Basic number) = nat_lt number 12
 is_inside n (kind.Array element count varying) = nat_lt element n
 is_inside n (kind.Text element count) = nat_lt element n
 is_inside n (kind.Pointer class to) = nat_lt to n

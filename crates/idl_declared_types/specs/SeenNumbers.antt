@@ -4,7 +4,7 @@ use Rattle.std.specs.Prelude.{slice_get, nat_lt}
 use Rattle.std.specs.List.{list_any, list_all, slice_set}
 use Rattle.nd_base.specs.declared.octets.Place.{Place}
 use Rattle.nd_types.specs.declared.TheConstants.{BASIC_TYPES, HANDLE}
-use Rattle.nd_types.specs.Kinds.{prim_number, context_number}
+use Rattle.nd_types.specs.Kinds.{prim_number, is_letter_prim, context_number}
 use Rattle.idl_declared_types.specs.declared.kinds.Kind.{Kind}
 use Rattle.idl_constructs.specs.declared.nodes.Node as program_node
 use Rattle.idl_constructs.specs.declared.nodes.Node.TheVariants as node
@@ -33,7 +33,7 @@ number_or past (Some n) = n
 number_or past None = past
 
 abbrev pub number_by : Numbers → ℕ → IdlType → ℕ
-number_by t k (Basic p) = prim_number p
+number_by t k (Basic p) = elim (is_letter_prim p) [ true ↦ number_or (next_of t) (found_number (slice_get t.numbers.items k)) | false ↦ prim_number p ]
 number_by t k ContextHandle = context_number
 number_by t k Handle = HANDLE.0
 number_by t k _ = number_or (next_of t) (found_number (slice_get t.numbers.items k))

@@ -22,7 +22,7 @@ fn is_switch_primitive(of: Option<Primitive>) -> bool
     ensures { result ≡ switch_primitive of }
 {
     match of {
-        Some(Primitive::Byte) => false,
+        Some(Primitive::Byte | Primitive::Letter) => false,
         Some(_) => true,
         None => false,
     }

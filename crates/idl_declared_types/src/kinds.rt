@@ -86,7 +86,7 @@ impl Model for Kinds {
 /// The number of a primitive type.
 fn primitive_number(of: Primitive) -> u8
     ensures seen { primitive_by result ≡ of }
-    ensures below { result < 11 }
+    ensures below { result < 12 }
 {
     match of {
         Primitive::Boolean => 0,
@@ -100,6 +100,7 @@ fn primitive_number(of: Primitive) -> u8
         Primitive::UnsignedLong => 8,
         Primitive::Hyper => 9,
         Primitive::UnsignedHyper => 10,
+        Primitive::Letter => 11,
     }
 }
 
@@ -146,7 +147,8 @@ impl Kind {
             7 => Primitive::Long,
             8 => Primitive::UnsignedLong,
             9 => Primitive::Hyper,
-            _ => Primitive::UnsignedHyper,
+            10 => Primitive::UnsignedHyper,
+            _ => Primitive::Letter,
         })
     }
 

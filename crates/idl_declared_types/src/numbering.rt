@@ -6,7 +6,8 @@ ghost use Rattle.idl_rule_definitions.specs.Nodes.{place_in};
 ghost use Rattle.idl_rule_definitions.specs.Types.{IdlType};
 ghost use Rattle.idl_rule_definitions.specs.Numbering as numbering;
 ghost use Rattle.idl_rule_definitions.specs.Numbering.{Needed, needed, built};
-ghost use Rattle.idl_declared_types.specs.Kinds.{type_by, type_at};
+ghost use Rattle.nd_types.specs.Kinds.{is_letter_prim};
+ghost use Rattle.idl_declared_types.specs.Kinds.{primitive_by, type_by, type_at};
 ghost use Rattle.idl_constructs.specs.SeenNodes.{seen_construct};
 ghost use Rattle.idl_declared_types.specs.SeenTypes.{scene_seen, IsTypes};
 ghost use Rattle.idl_declared_types.specs.SeenNumbers.{found_number, next_of, number_at, AreNumbers, along, needed_at, grown, grown_by, Gives};
@@ -35,14 +36,22 @@ pub struct Numbers {
     numbers: Vec<Option<usize>>,
 }
 
+/// Whether the primitive type of a number is a letter.
+fn is_letter(number: u8) -> bool
+    ensures { result ≡ is_letter_prim (primitive_by number) }
+{
+    number > 10
+}
+
 /// Whether a type has a number of its own where it is needed, and not that of a basic type.
 fn has_own_number(kind: Kind) -> bool
     ensures { (types : List IdlType) → result ≡ numbering.has_own_number (type_by types kind) }
 {
-    !matches!(
-        kind,
-        Kind::Void | Kind::Handle | Kind::ContextHandle | Kind::Basic { .. }
-    )
+    match kind {
+        Kind::Void | Kind::Handle | Kind::ContextHandle => false,
+        Kind::Basic { number } => is_letter(number),
+        _ => true,
+    }
 }
 
 impl Numbers {
@@ -81,7 +90,7 @@ impl Numbers {
         ensures { result ≡ number_at kinds.now self.now kind }
     {
         match kinds.kind(kind) {
-            Kind::Basic { number } => usize::from(number),
+            Kind::Basic { number } if !is_letter(number) => usize::from(number),
             Kind::ContextHandle => 11,
             Kind::Handle => HANDLE.0 as usize,
             _ => self.own_number(kind).unwrap_or(self.next()),

@@ -43,6 +43,7 @@ pub fn simple_kind(of: SimpleType) -> Kind
         SimpleType::Byte => Kind::basic(Primitive::Byte),
         SimpleType::Void => Kind::Void,
         SimpleType::Handle => Kind::Handle,
+        SimpleType::Letter => Kind::basic(Primitive::Letter),
     }
 }
 

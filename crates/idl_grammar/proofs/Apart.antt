@@ -58,12 +58,13 @@ same_among (s ∷ others) a b octets h same = by_case (bytes_eq octets s.octets)
   by_case false again i = again i
 
 no_windows_word : (octets : List ℕ) → is_of_windows (symbol_among windows_words symbol.Name octets) ≡ false → symbol_among windows_words symbol.Name octets ≡ symbol.Name
-no_windows_word octets h = by_cases (bytes_eq octets (codes "any_size")) (bytes_eq octets (codes "any_length")) h where
-  by_cases : (c d : Bool) → is_of_windows (cond c symbol.AnySize (cond d symbol.AnyLength symbol.Name)) ≡ false
-      → cond c symbol.AnySize (cond d symbol.AnyLength symbol.Name) ≡ symbol.Name
-  by_cases true d i = clash true refl i
-  by_cases false true i = clash true refl i
-  by_cases false false i = refl
+no_windows_word octets h = by_cases (bytes_eq octets (codes "any_size")) (bytes_eq octets (codes "any_length")) (bytes_eq octets (codes "wchar_t")) h where
+  by_cases : (c d e : Bool) → is_of_windows (cond c symbol.AnySize (cond d symbol.AnyLength (cond e symbol.WcharT symbol.Name))) ≡ false
+      → cond c symbol.AnySize (cond d symbol.AnyLength (cond e symbol.WcharT symbol.Name)) ≡ symbol.Name
+  by_cases true d e i = clash true refl i
+  by_cases false true e i = clash true refl i
+  by_cases false false true i = clash true refl i
+  by_cases false false false i = refl
 
 same_word : (octets : List ℕ) → is_of_windows (symbol_of_word Windows octets) ≡ false → symbol_of_word Windows octets ≡ symbol_of_word C706 octets
 unfolding symbol_of_word

@@ -108,6 +108,7 @@ simple_clean types.Boolean = mark_clean symbol.Boolean refl
 simple_clean types.Byte = mark_clean symbol.Byte refl
 simple_clean types.Void = mark_clean symbol.Void refl
 simple_clean types.Handle = mark_clean symbol.HandleT refl
+simple_clean types.Letter = mark_clean symbol.WcharT refl
 
 switch_type_clean : (inside : Bool) (s : SwitchType) → Clean (switch_type inside s)
 unfolding switch_type

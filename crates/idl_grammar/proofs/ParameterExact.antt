@@ -102,6 +102,7 @@ module _ (depth : ℕ) where
   void_simple types.Boolean lifted x i j e ph = absurd (let d : symbol.Void ≡ symbol.Boolean = sym e ∙ ph.0 in omega arith)
   void_simple types.Byte lifted x i j e ph = absurd (let d : symbol.Void ≡ symbol.Byte = sym e ∙ ph.0 in omega arith)
   void_simple types.Handle lifted x i j e ph = absurd (let d : symbol.Void ≡ symbol.HandleT = sym e ∙ ph.0 in omega arith)
+  void_simple types.Letter lifted x i j e ph = absurd (let d : symbol.Void ≡ symbol.WcharT = sym e ∙ ph.0 in omega arith)
   void_simple (types.Char true) lifted x i j e ph = absurd (let d : symbol.Void ≡ symbol.Unsigned = sym e ∙ ph.1.0 in omega arith)
   void_simple (types.Char false) lifted x i j e ph =
       absurd (let here : symbol_at x i ≡ symbol.Char = subst (λ (k : ℕ). symbol_at x k ≡ symbol.Char) ph.1 ph.2.0 in let d : symbol.Void ≡ symbol.Char = sym e ∙ here in omega arith)

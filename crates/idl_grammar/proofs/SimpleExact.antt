@@ -64,6 +64,7 @@ unsigned_back lifted x i j types.Boolean ph = absurd ph
 unsigned_back lifted x i j types.Byte ph = absurd ph
 unsigned_back lifted x i j types.Void ph = absurd ph
 unsigned_back lifted x i j types.Handle ph = absurd ph
+unsigned_back lifted x i j types.Letter ph = absurd ph
 
 sized_begins : Begins (width ⊗ flag symbol.Int) width_symbols
 sized_begins = pair_begins width (flag symbol.Int) width_symbols width_begins
@@ -106,6 +107,7 @@ width_back lifted x i j types.Boolean ph = absurd ph
 width_back lifted x i j types.Byte ph = absurd ph
 width_back lifted x i j types.Void ph = absurd ph
 width_back lifted x i j types.Handle ph = absurd ph
+width_back lifted x i j types.Letter ph = absurd ph
 
 width_first_begins : Begins width_first width_symbols
 width_first_begins lifted x i j c ph = let p = width_back lifted x i j c ph in width_begins lifted x i p.phrase.0 p.part.0 p.phrase.1
@@ -145,13 +147,14 @@ simple_forth lifted x i j types.Boolean (inl ph) = absurd ph.2
 simple_forth lifted x i j types.Byte (inl ph) = absurd ph.2
 simple_forth lifted x i j types.Void (inl ph) = absurd ph.2
 simple_forth lifted x i j types.Handle (inl ph) = absurd ph.2
+simple_forth lifted x i j types.Letter (inl ph) = absurd ph.2
 simple_forth lifted x i j c (inr (inl ph)) =
     let p = width_back lifted x i j c ph in
     subst (λ (v : SimpleType). simple v lifted x i j) (sym p.is) p.phrase
 simple_forth lifted x i j c (inr (inr ph)) =
     subst (λ (v : SimpleType). simple v lifted x i j) (sym ph.1)
     (each_meant (λ v s. symbol_at x i ≡ s → simple v lifted x i j) types.Boolean simple_words
-    (λ e. (i, refl, (e, ph.2)), (λ e. (e, ph.2), (λ e. (e, ph.2), (λ e. (e, ph.2), (λ e. (e, ph.2), tt)))))
+    (λ e. (i, refl, (e, ph.2)), (λ e. (e, ph.2), (λ e. (e, ph.2), (λ e. (e, ph.2), (λ e. (e, ph.2), (λ e. (e, ph.2), tt))))))
     (symbol_at x i) ph.0 refl)
 
 simple_back : (lifted : Lifted) (x : Text) (i j : ℕ) (c : SimpleType) → simple c lifted x i j → simple_parts c lifted x i j
@@ -165,9 +168,10 @@ simple_back lifted x i j types.Boolean ph = inr (inr (one_word types.Boolean sim
 simple_back lifted x i j types.Byte ph = inr (inr (one_word types.Boolean simple_words symbol.Byte types.Byte refl refl lifted x i j ph))
 simple_back lifted x i j types.Void ph = inr (inr (one_word types.Boolean simple_words symbol.Void types.Void refl refl lifted x i j ph))
 simple_back lifted x i j types.Handle ph = inr (inr (one_word types.Boolean simple_words symbol.HandleT types.Handle refl refl lifted x i j ph))
+simple_back lifted x i j types.Letter ph = inr (inr (one_word types.Boolean simple_words symbol.WcharT types.Letter refl refl lifted x i j ph))
 
 abbrev others_first : List ℕ
-others_first = symbol.Small ∷ symbol.Short ∷ symbol.Long ∷ symbol.Hyper ∷ symbol.Char ∷ symbol.Boolean ∷ symbol.Byte ∷ symbol.Void ∷ symbol.HandleT ∷ []
+others_first = symbol.Small ∷ symbol.Short ∷ symbol.Long ∷ symbol.Hyper ∷ symbol.Char ∷ symbol.Boolean ∷ symbol.Byte ∷ symbol.Void ∷ symbol.HandleT ∷ symbol.WcharT ∷ []
 
 others_begin : Begins (either width_first word) others_first
 others_begin = either_begins width_first word width_symbols (symbols_of simple_words) width_first_begins (λ lifted x i j c ph. ph.0) refl others_first refl refl

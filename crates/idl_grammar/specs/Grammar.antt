@@ -59,7 +59,7 @@ unfoldable pub integer : Rel IntegerType
 integer (integers.WidthFirst w unsigned int) = width w ▹ flag symbol.Unsigned unsigned ▹ flag symbol.Int int
 integer (integers.UnsignedFirst w int) = mark symbol.Unsigned ▹ width w ▹ flag symbol.Int int
 
--- simple = int | [ "unsigned" ] "char" | "boolean" | "byte" | "void" | "handle_t"
+-- simple = int | [ "unsigned" ] "char" | "boolean" | "byte" | "void" | "handle_t" | "wchar_t"
 unfoldable pub simple : Rel SimpleType
 simple (types.Integer n) = integer n
 simple (types.Char unsigned) = flag symbol.Unsigned unsigned ▹ mark symbol.Char
@@ -67,6 +67,7 @@ simple types.Boolean = mark symbol.Boolean
 simple types.Byte = mark symbol.Byte
 simple types.Void = mark symbol.Void
 simple types.Handle = mark symbol.HandleT
+simple types.Letter = mark symbol.WcharT
 
 -- simple | Ident
 unfoldable pub switch_type : Bool → Rel SwitchType

@@ -73,12 +73,12 @@ width_symbols = symbol.Small ∷ symbol.Short ∷ symbol.Long ∷ symbol.Hyper �
 abbrev pub simple_words : List (Meant SimpleType)
 simple_words =
     meant symbol.Char (types.Char false) ∷ meant symbol.Boolean types.Boolean ∷ meant symbol.Byte types.Byte ∷ meant symbol.Void types.Void
-    ∷ meant symbol.HandleT types.Handle ∷ []
+    ∷ meant symbol.HandleT types.Handle ∷ meant symbol.WcharT types.Letter ∷ []
 
 unfoldable pub simple_firsts : List ℕ
 simple_firsts =
     symbol.Unsigned ∷ symbol.Small ∷ symbol.Short ∷ symbol.Long ∷ symbol.Hyper ∷ symbol.Char ∷ symbol.Boolean ∷ symbol.Byte ∷ symbol.Void
-    ∷ symbol.HandleT ∷ []
+    ∷ symbol.HandleT ∷ symbol.WcharT ∷ []
 
 unfoldable pub width_read : Text → ℕ → Read Width
 width_read t i = one_of_read widths.Small width_words t i
@@ -284,7 +284,7 @@ union_switch_read t depth i =
 unfoldable pub type_firsts : List ℕ
 type_firsts =
     symbol.Unsigned ∷ symbol.Small ∷ symbol.Short ∷ symbol.Long ∷ symbol.Hyper ∷ symbol.Char ∷ symbol.Boolean ∷ symbol.Byte ∷ symbol.Void
-    ∷ symbol.HandleT
+    ∷ symbol.HandleT ∷ symbol.WcharT
     ∷ symbol.Struct ∷ symbol.Union ∷ symbol.Enum ∷ names false
 
 unfoldable pub member_firsts : List ℕ

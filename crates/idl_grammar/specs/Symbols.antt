@@ -188,6 +188,9 @@ AnySize = 62
 abbrev pub AnyLength : ℕ
 AnyLength = 63
 
+abbrev pub WcharT : ℕ
+WcharT = 64
+
 -- ## Marks
 
 abbrev pub OpenSquare : ℕ
@@ -353,12 +356,12 @@ attribute_words =
     spelled (codes "broadcast") Broadcast ∷
     spelled (codes "maybe") Maybe ∷ []
 
--- words with which an attribute begins in the windows language, and names in C706
+-- words of the windows language that are names in C706: two with which an attribute begins, and a type
 abbrev pub windows_words : List Spelled
-windows_words = spelled (codes "any_size") AnySize ∷ spelled (codes "any_length") AnyLength ∷ []
+windows_words = spelled (codes "any_size") AnySize ∷ spelled (codes "any_length") AnyLength ∷ spelled (codes "wchar_t") WcharT ∷ []
 
 abbrev pub windows_symbols : List ℕ
-windows_symbols = AnySize ∷ AnyLength ∷ []
+windows_symbols = AnySize ∷ AnyLength ∷ WcharT ∷ []
 
 -- words that are banned anywhere: parts of C706 that this project leaves out
 abbrev pub banned_words : List Spelled

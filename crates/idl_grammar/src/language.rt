@@ -5,7 +5,7 @@
 pub enum Language {
     /// That of C706, chapter 4.
     C706,
-    /// The same, in which `any_size` and `any_length` are words with which an attribute begins.
+    /// The same, in which `any_size` and `any_length` are words with which an attribute begins, and `wchar_t` is a type.
     Windows,
 }
 

@@ -73,6 +73,8 @@ pub enum SimpleType {
     Void,
     /// `handle_t`
     Handle,
+    /// `wchar_t`, in the windows language
+    Letter,
 }
 
 /// The type of what tells the arms of a union apart.

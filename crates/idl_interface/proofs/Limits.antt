@@ -13,7 +13,7 @@ use Rattle.nd_types.specs.declared.types.Field.{Field}
 use Rattle.nd_types.specs.declared.types.Primitive.{Primitive}
 use Rattle.nd_types.specs.declared.types.Primitive.TheVariants as primitive
 use Rattle.nd_types.specs.declared.TheConstants.{TYPE_LIMIT, PARAM_LIMIT, MEMBER_LIMIT}
-use Rattle.nd_types.specs.Kinds.{basic_types, prim_number}
+use Rattle.nd_types.specs.Kinds.{basic_types, prim_number, is_letter_prim}
 use Rattle.nd_types.specs.Legal.{part_count}
 use Rattle.nd_types.proofs.LegalLaws.{passes_at}
 use Rattle.idl_grammar.specs.Tree.{TypeSpec}
@@ -71,9 +71,14 @@ prim_narrow primitive.Hyper = omega arith
 prim_narrow primitive.UnsignedHyper = omega arith
 prim_narrow primitive.Letter = omega arith
 
+basic_narrow : (s : Scene) (p : Primitive) (b : Bool) → length (types_of s) ≤ TYPE_LIMIT
+    → elim b [ true ↦ number_among (length basic_types) (own_types s) (Basic p) | false ↦ prim_number p ] < 2 ^ 32
+basic_narrow s p true few = own_narrow s (Basic p) few
+basic_narrow s p false few = prim_narrow p
+
 -- the number of a type has 32 bits
 pub number_narrow : (s : Scene) (t : IdlType) → length (types_of s) ≤ TYPE_LIMIT → number_of_type s t < 2 ^ 32
-number_narrow s (Basic p) few = prim_narrow p
+number_narrow s (Basic p) few = basic_narrow s p (is_letter_prim p) few
 number_narrow s ContextHandle few = omega arith
 number_narrow s Handle few = omega arith
 number_narrow s Void few = own_narrow s Void few

@@ -47,25 +47,26 @@ own s t h =
     let found = stands (definition s) 12 (own_types s) t h in
     ap (type_at (types_of s)) found.number ∙ (behind_basic (map (λ m. definition s m.type) (own_types s)) found.index ∙ found.entry)
 
-primitive_at : (s : Scene) (p : Primitive) → type_at (types_of s) (number_of_type s (Basic p)) ≡ Some (definition s (Basic p))
-primitive_at s primitive.Boolean = refl
-primitive_at s primitive.Char = refl
-primitive_at s primitive.Byte = refl
-primitive_at s primitive.Small = refl
-primitive_at s primitive.UnsignedSmall = refl
-primitive_at s primitive.Short = refl
-primitive_at s primitive.UnsignedShort = refl
-primitive_at s primitive.Long = refl
-primitive_at s primitive.UnsignedLong = refl
-primitive_at s primitive.Hyper = refl
-primitive_at s primitive.UnsignedHyper = refl
+primitive_at : (s : Scene) (p : Primitive) → is_numbered s (Basic p) ≡ true → type_at (types_of s) (number_of_type s (Basic p)) ≡ Some (definition s (Basic p))
+primitive_at s primitive.Boolean h = refl
+primitive_at s primitive.Char h = refl
+primitive_at s primitive.Byte h = refl
+primitive_at s primitive.Small h = refl
+primitive_at s primitive.UnsignedSmall h = refl
+primitive_at s primitive.Short h = refl
+primitive_at s primitive.UnsignedShort h = refl
+primitive_at s primitive.Long h = refl
+primitive_at s primitive.UnsignedLong h = refl
+primitive_at s primitive.Hyper h = refl
+primitive_at s primitive.UnsignedHyper h = refl
+primitive_at s primitive.Letter h = own s (Basic primitive.Letter) h
 
 -- at the number of a type stands what it is
 pub at_its_number : (s : Scene) (t : IdlType) → is_numbered s t ≡ true → type_at (types_of s) (number_of_type s t) ≡ Some (definition s t)
 at_its_number s Void h = absurd (let e : false ≡ true = h in cc)
 at_its_number s Handle h = absurd (let e : false ≡ true = h in cc)
 at_its_number s ContextHandle h = refl
-at_its_number s (Basic p) h = primitive_at s p
+at_its_number s (Basic p) h = primitive_at s p h
 at_its_number s (Struct p) h = own s (Struct p) h
 at_its_number s (Union p) h = own s (Union p) h
 at_its_number s (Enum p) h = own s (Enum p) h

@@ -3,6 +3,9 @@ use Rattle.std.proofs.Common.{◌≡◌, ℕ, ◌+◌, Bool, true, false, not, �
 use Rattle.std.specs.List.{list_any, list_all, flat_map}
 use Rattle.std.proofs.lemmas.List.Folds.{list_all-append, list_all-map}
 use Rattle.std.proofs.lemmas.Bool.{lt-ltb, and_parts as both, or_right as right, not-true as untrue, and_from}
+use Rattle.nd_types.specs.declared.types.Primitive.{Primitive}
+use Rattle.nd_types.specs.declared.types.Primitive.TheVariants.{Letter}
+use Rattle.nd_types.specs.Kinds.{is_letter_prim}
 use Rattle.nd_types.specs.declared.types.TypeDef.{TypeDef}
 use Rattle.nd_types.specs.declared.types.TypeDef.TheVariants as def
 use Rattle.nd_types.specs.Kinds.{basic_types}
@@ -280,6 +283,7 @@ pub record Fact (s : Scene) (test : TypeDef → Bool) : Type 0 where
   pub nothing : test (def.Enum []) ≡ true
   pub by_bodies : (b : Body) → BodyThere s b → body_of s (place_of b) ≡ Some b → test (defined_by s b b.body) ≡ true
   pub by_made : (t : IdlType) → is_made t ≡ true → is_numbered s t ≡ true → test (definition s t) ≡ true
+  pub letter : test (def.Prim Letter) ≡ true
 
 by_body : (s : Scene) (test : TypeDef → Bool) → Fact s test → (place : Place) (is_meant : TypeSpec → Bool) (o : Option Body) → body_of s place ≡ o → test (defined_at s (body_if is_meant o)) ≡ true
 by_body s test f place is_meant None e = f.nothing
@@ -288,6 +292,10 @@ by_body s test f place is_meant (Some b) e = kind (is_meant b.body)
     kind : (t : Bool) → test (defined_at s (elim t [ true ↦ Some b | false ↦ None ])) ≡ true
     kind true = f.by_bodies b (found_there s place b e) (subst (λ q. body_of s q ≡ Some b) (sym (place_is (place_of b) place (found_same s place b e))) e)
     kind false = f.nothing
+
+letter_is : (p : Primitive) → is_letter_prim p ≡ true → p ≡ Letter
+letter_is Letter h = refl
+letter_is _ h = absurd (let e : false ≡ true = h in cc)
 
 by_own : (s : Scene) (test : TypeDef → Bool) → Fact s test → (t : IdlType) → has_own_number t ≡ true → is_numbered s t ≡ true → test (definition s t) ≡ true
 by_own s test f (Struct p) h i = by_body s test f p is_struct (body_of s p) refl
@@ -300,7 +308,7 @@ by_own s test f (Pipe t) h i = f.by_made (Pipe t) refl i
 by_own s test f Void h i = absurd (let e : false ≡ true = h in cc)
 by_own s test f Handle h i = absurd (let e : false ≡ true = h in cc)
 by_own s test f ContextHandle h i = absurd (let e : false ≡ true = h in cc)
-by_own s test f (Basic p) h i = absurd (let e : false ≡ true = h in cc)
+by_own s test f (Basic p) h i = subst (λ q. test (def.Prim q) ≡ true) (sym (letter_is p h)) f.letter
 
 own_numbers : (s : Scene) (t : IdlType) → has_own_number t ≡ true → is_among (own_types s) t ≡ true → is_numbered s t ≡ true
 own_numbers s (Struct p) h i = i
@@ -313,7 +321,7 @@ own_numbers s (Pipe t) h i = i
 own_numbers s Void h i = absurd (let e : false ≡ true = h in cc)
 own_numbers s Handle h i = absurd (let e : false ≡ true = h in cc)
 own_numbers s ContextHandle h i = absurd (let e : false ≡ true = h in cc)
-own_numbers s (Basic p) h i = absurd (let e : false ≡ true = h in cc)
+own_numbers s (Basic p) h i = ap (λ b. elim b [ true ↦ is_among (own_types s) (Basic p) | false ↦ true ]) h ∙ i
 
 kept_own : (n : Needed) (ns others : List Needed) (b c : Bool) → has_own_number n.type ≡ b → all_are has_own_number ns ≡ true → all_are has_own_number others ≡ true
     → all_are has_own_number (elim (b && c) [ true ↦ n ∷ ns | false ↦ others ]) ≡ true

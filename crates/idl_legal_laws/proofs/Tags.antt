@@ -7,11 +7,13 @@ use Rattle.idl_grammar.specs.declared.types.SwitchType.{SwitchType}
 use Rattle.idl_grammar.specs.declared.types.SwitchType.TheVariants as switch
 use Rattle.idl_grammar.specs.declared.types.SimpleType.{SimpleType}
 use Rattle.idl_grammar.specs.declared.types.SimpleType.TheVariants as simple
-use Rattle.idl_grammar.specs.Tree.{TypeSpec}
+use Rattle.idl_grammar.specs.declared.types.Width.{Width}
+use Rattle.idl_grammar.specs.declared.types.Width.TheVariants as width
+use Rattle.idl_grammar.specs.Tree.{TypeSpec, width_of, is_without_sign}
 use Rattle.idl_grammar.specs.Tree as tree
 use Rattle.idl_scope.specs.Known.{found}
 use Rattle.idl_rule_definitions.specs.Nodes.{Construct, Node, SwitchNode, BodyNode, switch_node, label_nodes, labels_of}
-use Rattle.idl_rule_definitions.specs.Types.{IdlType, or_void, Void, Handle, ContextHandle, Basic, Struct, Union, Enum, Array, Text, Pointer, Pipe, Names, type_of, named_type, simple_type}
+use Rattle.idl_rule_definitions.specs.Types.{IdlType, or_void, Void, Handle, ContextHandle, Basic, Struct, Union, Enum, Array, Text, Pointer, Pipe, Names, type_of, named_type, simple_type, integer_primitive}
 use Rattle.idl_rule_definitions.specs.Types.{switch_type, is_void, is_handle, is_pipe, is_context}
 use Rattle.idl_rule_definitions.specs.Scene.{Scene, Body, tag_type, tag_written, parts_declared}
 use Rattle.idl_rule_definitions.specs.Rules.{broken_in}
@@ -60,17 +62,28 @@ switch_numbered s (Text t m) h i = i
 switch_numbered s (Pointer c t) h i = i
 switch_numbered s (Pipe t) h i = i
 
-simple_passes : (s : Scene) (t : SimpleType) → is_numbered_or_none s (simple_type t) ≡ true
-simple_passes s (simple.Integer i) = refl
-simple_passes s (simple.Char u) = refl
-simple_passes s simple.Boolean = refl
-simple_passes s simple.Byte = refl
-simple_passes s simple.Void = refl
-simple_passes s simple.Handle = refl
+simple_passes : (s : Scene) (t : SimpleType) → may_be_switched (simple_type t) ≡ true → is_numbered_or_none s (simple_type t) ≡ true
+simple_passes s (simple.Integer i) m = integer_passes (is_without_sign i) (width_of i) where
+  integer_passes : (u : Bool) (w : Width) → is_numbered_or_none s (Basic (integer_primitive u w)) ≡ true
+  integer_passes true width.Small = refl
+  integer_passes true width.Short = refl
+  integer_passes true width.Long = refl
+  integer_passes true width.Hyper = refl
+  integer_passes false width.Small = refl
+  integer_passes false width.Short = refl
+  integer_passes false width.Long = refl
+  integer_passes false width.Hyper = refl
+simple_passes s (simple.Char u) m = refl
+simple_passes s simple.Boolean m = refl
+simple_passes s simple.Byte m = refl
+simple_passes s simple.Void m = refl
+simple_passes s simple.Handle m = refl
+simple_passes s simple.Letter m = absurd (let e : false ≡ true = m in cc)
 
-tag_passes : (s : Scene) (names : Names) (w : SwitchType) → NamesKeep (Passes (is_numbered_or_none s)) names → is_numbered_or_none s (switch_type names w) ≡ true
-tag_passes s names (switch.Simple t) h = simple_passes s t
-tag_passes s names (switch.Name n) h = named_keeps (Passes (is_numbered_or_none s)) names n h refl
+tag_passes : (s : Scene) (names : Names) (w : SwitchType) → may_be_switched (switch_type names w) ≡ true → NamesKeep (Passes (is_numbered_or_none s)) names
+    → is_numbered_or_none s (switch_type names w) ≡ true
+tag_passes s names (switch.Simple t) m h = simple_passes s t m
+tag_passes s names (switch.Name n) m h = named_keeps (Passes (is_numbered_or_none s)) names n h refl
 
 pub no_not : (b : Bool) → not b ≡ false → b ≡ true
 no_not true h = refl
@@ -91,7 +104,7 @@ tag_of_switch s k b w e h =
       type = switch_type b.names w;
       is = ap (option_map (switch_type b.names)) e;
       switched = m;
-      there = switch_numbered s (switch_type b.names w) m (tag_passes s b.names w (numbers_named s k b.names (SwitchNode b.construct w) h));
+      there = switch_numbered s (switch_type b.names w) m (tag_passes s b.names w m (numbers_named s k b.names (SwitchNode b.construct w) h));
     }
 
 written : (o : Option SwitchType) → is_none o ≡ false → (c : Construct) (s : Scene) (names : Names) → Each (There s names) (switch_node c o)

@@ -10,7 +10,7 @@ use Rattle.nd_types.specs.declared.types.Side.{Side}
 use Rattle.nd_types.specs.declared.types.Side.TheVariants as side
 use Rattle.nd_types.specs.declared.types.TypeId.{TypeId}
 use Rattle.nd_types.specs.declared.types.TypeDef.{TypeDef}
-use Rattle.nd_types.specs.declared.types.TypeDef.TheVariants.{Enum, Struct, Array, Text, Union, Pointer, Pipe}
+use Rattle.nd_types.specs.declared.types.TypeDef.TheVariants.{Prim, Enum, Struct, Array, Text, Union, Pointer, Pipe}
 use Rattle.nd_types.specs.declared.types.Field.{Field}
 use Rattle.nd_types.specs.declared.types.Arm.{Arm}
 use Rattle.nd_types.specs.declared.types.AttrVar.{AttrVar}
@@ -18,7 +18,7 @@ use Rattle.nd_types.specs.declared.types.Attr.{Attr}
 use Rattle.nd_types.specs.declared.types.Attr.TheVariants as attr
 use Rattle.nd_types.specs.declared.types.Operation.{Operation}
 use Rattle.nd_types.specs.Table.{Table}
-use Rattle.nd_types.specs.Kinds.{basic_types}
+use Rattle.nd_types.specs.Kinds.{is_letter_prim, basic_types}
 use Rattle.nd_types.specs.Layout.{align_of, hoists}
 use Rattle.nd_types.specs.Fields.{param_fields}
 use Rattle.nd_types.specs.Roots.{Root, roots_of, root_name}
@@ -122,8 +122,14 @@ attrs_words list vars = flat_map (attr_words list) vars
 
 -- ### Types
 
+-- what a primitive type is: a letter has a line, as it is no basic type
+abbrev pub prim_form : Bool → List (List ℕ)
+prim_form true = codes "letter" ∷ []
+prim_form false = []
+
 -- what a type is; basic types have no lines
 abbrev pub form : TypeDef → List (List ℕ)
+form (Prim p) = prim_form (is_letter_prim p)
 form (Enum values) = codes "enum" ∷ map signed_decimal values
 form (Struct members) = codes "struct" ∷ []
 form (Array elem (Some count) false) = codes "fixed" ∷ decimal elem.0 ∷ decimal count ∷ []

@@ -10,7 +10,7 @@ use crate::attribute_words::attribute;
 use crate::{class_word, number, signed, word, word_if};
 use nd_base::{Memory, Name, Octets};
 use nd_types::{
-    Arm, Arms, AttrVars, BASIC_TYPES, Field, Fields, Interface, Numbers, TypeDef, TypeId,
+    Arm, Arms, AttrVars, BASIC_TYPES, Field, Fields, Interface, Numbers, Prim, TypeDef, TypeId,
 };
 
 /// A word and the number of a type.
@@ -91,6 +91,7 @@ fn form(text: &mut Octets, definition: &TypeDef) -> Result<(), Memory>
         TypeDef::Union { tag, .. } => of_type(text, b"union", *tag),
         TypeDef::Pointer { class, to } => of_type(text, class_word(*class), *to),
         TypeDef::Pipe { elem } => of_type(text, b"pipe", *elem),
+        TypeDef::Prim(Prim::Letter) => word(text, b"letter"),
         TypeDef::Prim(_) | TypeDef::Context => Ok(()),
     }
 }

@@ -17,7 +17,7 @@ in_both (x ∷ xs) ys s = or_again (eqb s x) (is_in xs s) (is_in ys s) ∙ ap (�
 abbrev pub no_names : List ℕ
 no_names =
     symbol.Unsigned ∷ symbol.Small ∷ symbol.Short ∷ symbol.Long ∷ symbol.Hyper ∷ symbol.Char ∷ symbol.Boolean ∷ symbol.Byte ∷ symbol.Void ∷ symbol.HandleT
-    ∷ symbol.Struct ∷ symbol.Union ∷ symbol.Enum ∷ []
+    ∷ symbol.WcharT ∷ symbol.Struct ∷ symbol.Union ∷ symbol.Enum ∷ []
 
 pub type_begins : (s : ℕ) → (is_in no_names s || is_in (names false) s) ≡ is_in type_firsts s
 unfolding type_firsts

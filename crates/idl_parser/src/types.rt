@@ -18,7 +18,7 @@ use idl_tokens::parser::Parser;
 use idl_tokens::symbol;
 
 /// The symbols with which a type begins that is no name.
-static TYPE_FIRSTS: [u8; 13] = [
+static TYPE_FIRSTS: [u8; 14] = [
     symbol::UNSIGNED,
     symbol::SMALL,
     symbol::SHORT,
@@ -29,6 +29,7 @@ static TYPE_FIRSTS: [u8; 13] = [
     symbol::BYTE,
     symbol::VOID,
     symbol::HANDLE_T,
+    symbol::WCHAR_T,
     symbol::STRUCT,
     symbol::UNION,
     symbol::ENUM,

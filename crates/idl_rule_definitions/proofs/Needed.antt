@@ -2,6 +2,7 @@
 use Rattle.std.proofs.Common.{◌≡◌, Bool, true, false, not, ◌||◌, ◌&&◌, ◌⊎◌, inl, inr, List, [], ◌∷◌, Option, Some, None, ℤ, refl, sym, ap, arith, ◌∙◌, subst}
 use Rattle.std.specs.List.{list_any, list_all}
 use Rattle.std.proofs.lemmas.Bool.Decides.{nat_tests, Decides-int_eq}
+use Rattle.nd_types.specs.Kinds.{is_letter_prim}
 use Rattle.idl_grammar.specs.declared.attributes.PointerClass.{PointerClass}
 use Rattle.idl_grammar.specs.declared.attributes.PointerClass.TheVariants as class
 use Rattle.idl_rule_definitions.specs.Types.{IdlType, Void, Handle, ContextHandle, Basic, Struct, Union, Enum, Array, Text, Pointer, Pipe}
@@ -92,7 +93,10 @@ pub each_one : (s : Scene) (t : IdlType) → is_among (needed_types s) t ≡ tru
 each_one s Void h = refl
 each_one s Handle h = refl
 each_one s ContextHandle h = refl
-each_one s (Basic p) h = refl
+each_one s (Basic p) h = by (is_letter_prim p) refl where
+  by : (b : Bool) → is_letter_prim p ≡ b → elim b [ true ↦ is_among (own_types s) (Basic p) | false ↦ true ] ≡ true
+  by true e = numbered s (Basic p) e h
+  by false e = refl
 each_one s (Struct p) h = numbered s (Struct p) refl h
 each_one s (Union p) h = numbered s (Union p) refl h
 each_one s (Enum p) h = numbered s (Enum p) refl h

@@ -1,11 +1,11 @@
 -- The numbers of types. 0 to 11 are the basic types. From 12 on they stand in the order of the text: a struct, union or enum at the first place of
--- its tag, or where it has none of its first word; a pointer, array, text or pipe at the first declarator that needs it, after the types of which it
--- is made. Equal types have one number.
+-- its tag, or where it has none of its first word; a letter, pointer, array, text or pipe at the first declarator that needs it, after the types of
+-- which it is made. Equal types have one number.
 use Rattle.std.specs.Prelude.{ℕ, ◌+◌, Bool, true, false, not, ◌&&◌, ◌==◌, List, [], ◌∷◌, ◌++◌, map, length, Option, Some, None, ℤ}
 use Rattle.std.specs.List.{list_any, flat_map}
 use Rattle.std.specs.Ordering.{int_eq}
 use Rattle.nd_types.specs.declared.TheConstants.{HANDLE}
-use Rattle.nd_types.specs.Kinds.{prim_number, context_number, basic_types}
+use Rattle.nd_types.specs.Kinds.{prim_number, is_letter_prim, context_number, basic_types}
 use Rattle.idl_grammar.specs.declared.attributes.PointerClass.{PointerClass}
 use Rattle.idl_grammar.specs.declared.attributes.PointerClass.TheVariants as class
 use Rattle.idl_scope.specs.Known.{Known}
@@ -76,7 +76,7 @@ abbrev pub has_own_number : IdlType → Bool
 has_own_number Void = false
 has_own_number Handle = false
 has_own_number ContextHandle = false
-has_own_number (Basic p) = false
+has_own_number (Basic p) = is_letter_prim p
 has_own_number _ = true
 
 -- each type with a number of its own where it is needed first, after these
@@ -102,7 +102,7 @@ number_among n (m ∷ ms) t = elim (same_type m.type t) [ true ↦ n | false ↦
 
 -- the number of a type; `handle_t` is in no table
 abbrev pub number_of_type : Scene → IdlType → ℕ
-number_of_type s (Basic p) = prim_number p
+number_of_type s (Basic p) = elim (is_letter_prim p) [ true ↦ number_among (length basic_types) (own_types s) (Basic p) | false ↦ prim_number p ]
 number_of_type s ContextHandle = context_number
 number_of_type s Handle = HANDLE.0
 number_of_type s t = number_among (length basic_types) (own_types s) t
@@ -112,7 +112,7 @@ abbrev pub is_numbered : Scene → IdlType → Bool
 is_numbered s Void = false
 is_numbered s Handle = false
 is_numbered s ContextHandle = true
-is_numbered s (Basic p) = true
+is_numbered s (Basic p) = elim (is_letter_prim p) [ true ↦ list_any (λ n. same_type n.type (Basic p)) (own_types s) | false ↦ true ]
 is_numbered s t = list_any (λ n. same_type n.type t) (own_types s)
 
 -- the same, or `void` or `handle_t`

@@ -69,6 +69,7 @@ simple_type simple.Boolean = Basic primitive.Boolean
 simple_type simple.Byte = Basic primitive.Byte
 simple_type simple.Void = Void
 simple_type simple.Handle = Handle
+simple_type simple.Letter = Basic primitive.Letter
 
 -- Each name of a type is known where it is used.
 abbrev pub or_void : Option IdlType → IdlType

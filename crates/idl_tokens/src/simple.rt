@@ -16,7 +16,7 @@ use idl_grammar::{IntegerType, Refusal, SimpleType, SwitchType, Width};
 static WIDTHS: [u8; 4] = [symbol::SMALL, symbol::SHORT, symbol::LONG, symbol::HYPER];
 
 /// The symbols with which a type without parts begins.
-static SIMPLE_FIRSTS: [u8; 10] = [
+static SIMPLE_FIRSTS: [u8; 11] = [
     symbol::UNSIGNED,
     symbol::SMALL,
     symbol::SHORT,
@@ -27,6 +27,7 @@ static SIMPLE_FIRSTS: [u8; 10] = [
     symbol::BYTE,
     symbol::VOID,
     symbol::HANDLE_T,
+    symbol::WCHAR_T,
 ];
 
 /// The width that a word stands for.
@@ -52,6 +53,7 @@ fn simple_of(symbol: u8) -> Option<SimpleType>
         symbol::BYTE => Some(SimpleType::Byte),
         symbol::VOID => Some(SimpleType::Void),
         symbol::HANDLE_T => Some(SimpleType::Handle),
+        symbol::WCHAR_T => Some(SimpleType::Letter),
         _ => None,
     }
 }

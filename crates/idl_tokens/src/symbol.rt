@@ -116,6 +116,8 @@ pub const MAYBE: u8 = 61;
 pub const ANY_SIZE: u8 = 62;
 /// `any_length`, in the windows language
 pub const ANY_LENGTH: u8 = 63;
+/// `wchar_t`, in the windows language
+pub const WCHAR_T: u8 = 64;
 /// `[`
 pub const OPEN_SQUARE: u8 = 70;
 /// `]`

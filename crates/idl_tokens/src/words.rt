@@ -256,8 +256,8 @@ pub(crate) static WORDS: [Entry; 61] = [
     },
 ];
 
-/// The words with which an attribute begins in the windows language, and which are names in C706.
-pub(crate) static WINDOWS_WORDS: [Entry; 2] = [
+/// The words of the windows language that are names in C706: two with which an attribute begins, and a type.
+pub(crate) static WINDOWS_WORDS: [Entry; 3] = [
     Entry {
         octets: b"any_size",
         symbol: symbol::ANY_SIZE,
@@ -265,6 +265,10 @@ pub(crate) static WINDOWS_WORDS: [Entry; 2] = [
     Entry {
         octets: b"any_length",
         symbol: symbol::ANY_LENGTH,
+    },
+    Entry {
+        octets: b"wchar_t",
+        symbol: symbol::WCHAR_T,
     },
 ];
 

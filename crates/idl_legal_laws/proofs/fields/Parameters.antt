@@ -166,13 +166,13 @@ OfResult s test t = result_passes test (result_number s t) ≡ true
 
 right_result : (s : Scene) (t : IdlType) → is_result_type t ≡ true → is_numbered_or_none s t ≡ true → OfResult s (λ n. legal.is_result_type (type_at (types_of s) n)) t
 right_result s Void h i = refl
-right_result s (Basic p) h i = ap legal.is_result_type (at_its_number s (Basic p) refl)
+right_result s (Basic p) h i = ap legal.is_result_type (at_its_number s (Basic p) i)
 right_result s (Enum p) h i = ap legal.is_result_type (at_its_number s (Enum p) i) ∙ enum_found s (body_of s p)
 right_result s _ h i = absurd (let f : false ≡ true = h in cc)
 
 known_result : (s : Scene) (t : IdlType) → is_result_type t ≡ true → is_numbered_or_none s t ≡ true → OfResult s (is_in_table (types_of s)) t
 known_result s Void h i = refl
-known_result s (Basic p) h i = in_table s (Basic p) _ (at_its_number s (Basic p) refl)
+known_result s (Basic p) h i = in_table s (Basic p) _ (at_its_number s (Basic p) i)
 known_result s (Enum p) h i = in_table s (Enum p) _ (at_its_number s (Enum p) i)
 known_result s _ h i = absurd (let f : false ≡ true = h in cc)
 

@@ -303,13 +303,13 @@ pub pipes : (s : Scene) → IsKept s → list_all (legal.stands_alone kinds.is_p
 pipes s kept =
     let uses : Uses s (pipe_kind s) = λ u keeps. keeps.no_pipe in
     table_all s (legal.stands_alone kinds.is_pipe (types_of s)) refl
-    (record { nothing = refl; by_bodies = λ b h e. body_alone s kept (pipe_kind s) uses b h; by_made = made_alone s kept (pipe_kind s) uses })
+    (record { nothing = refl; by_bodies = λ b h e. body_alone s kept (pipe_kind s) uses b h; by_made = made_alone s kept (pipe_kind s) uses; letter = refl })
 
 pub contexts : (s : Scene) → IsKept s → list_all (legal.stands_alone kinds.is_context (types_of s)) (types_of s) ≡ true
 contexts s kept =
     let uses : Uses s (context_kind s) = λ u keeps. keeps.no_context_handle in
     table_all s (legal.stands_alone kinds.is_context (types_of s)) refl
-    (record { nothing = refl; by_bodies = λ b h e. body_alone s kept (context_kind s) uses b h; by_made = made_alone s kept (context_kind s) uses })
+    (record { nothing = refl; by_bodies = λ b h e. body_alone s kept (context_kind s) uses b h; by_made = made_alone s kept (context_kind s) uses; letter = refl })
 
 -- ## Non-encapsulated unions
 
@@ -512,4 +512,4 @@ body_switched s k b h =
 
 pub switched_types : (s : Scene) → IsKept s → list_all (legal.holds_no_switched (types_of s)) (types_of s) ≡ true
 switched_types s k =
-    table_all s (legal.holds_no_switched (types_of s)) refl (record { nothing = refl; by_bodies = λ b h e. body_switched s k b h; by_made = made_switched s k })
+    table_all s (legal.holds_no_switched (types_of s)) refl (record { nothing = refl; by_bodies = λ b h e. body_switched s k b h; by_made = made_switched s k; letter = refl })

@@ -416,7 +416,7 @@ made_text s k (Enum p) h i = absurd (let e : false ≡ true = h in cc)
 
 pub text_elements : (s : Scene) → IsKept s → list_all legal.has_text_element (types_of s) ≡ true
 text_elements s k =
-    table_all s legal.has_text_element refl (record { nothing = refl; by_bodies = λ b h e. body_text s b b.body; by_made = made_text s k })
+    table_all s legal.has_text_element refl (record { nothing = refl; by_bodies = λ b h e. body_text s b b.body; by_made = made_text s k; letter = refl })
 
 -- ## Bounds
 
@@ -464,7 +464,7 @@ made_bound s k (Union p) h i = absurd (let e : false ≡ true = h in cc)
 made_bound s k (Enum p) h i = absurd (let e : false ≡ true = h in cc)
 
 pub bounds : (s : Scene) → IsKept s → list_all legal.has_small_bound (types_of s) ≡ true
-bounds s k = table_all s legal.has_small_bound refl (record { nothing = refl; by_bodies = λ b h e. body_bound s b b.body; by_made = made_bound s k })
+bounds s k = table_all s legal.has_small_bound refl (record { nothing = refl; by_bodies = λ b h e. body_bound s b b.body; by_made = made_bound s k; letter = refl })
 
 -- ## Dimensions
 
@@ -552,7 +552,7 @@ made_dimensions s k (Enum p) h i = absurd (let e : false ≡ true = h in cc)
 pub fixed_dimensions : (s : Scene) → IsKept s → list_all (legal.has_fixed_dimensions (types_of s)) (types_of s) ≡ true
 fixed_dimensions s k =
     table_all s (legal.has_fixed_dimensions (types_of s)) refl
-    (record { nothing = refl; by_bodies = λ b h e. body_dimensions (types_of s) s b b.body; by_made = made_dimensions s k })
+    (record { nothing = refl; by_bodies = λ b h e. body_dimensions (types_of s) s b b.body; by_made = made_dimensions s k; letter = refl })
 
 -- ## Elements of all dimensions together
 
@@ -726,4 +726,4 @@ unfolding legal.element_count
 elements s k =
     numbers_all (λ o. nat_le (elements_by (legal.elements_within 31 (types_of s)) o) ELEMENT_LIMIT) (types_of s)
     (table_all s (few_elements s) refl
-    (record { nothing = refl; by_bodies = λ b h e. one_few s (defined_by s b b.body) (form_one (legal.elements_within 31 (types_of s)) s b b.body); by_made = made_few s k }))
+    (record { nothing = refl; by_bodies = λ b h e. one_few s (defined_by s b b.body) (form_one (legal.elements_within 31 (types_of s)) s b b.body); by_made = made_few s k; letter = refl }))

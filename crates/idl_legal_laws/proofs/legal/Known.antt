@@ -64,7 +64,7 @@ made_plain s (Enum p) h = absurd (let e : false ≡ true = h in cc)
 
 pub no_later_basic : (s : Scene) → list_all (λ d. not (is_basic d)) (drop (length basic_types) (types_of s)) ≡ true
 no_later_basic s =
-    own_all s (λ d. not (is_basic d)) (record { nothing = refl; by_bodies = λ b h e. body_plain s b b.body; by_made = λ t h i. made_plain s t h })
+    own_all s (λ d. not (is_basic d)) (record { nothing = refl; by_bodies = λ b h e. body_plain s b b.body; by_made = λ t h i. made_plain s t h; letter = refl })
 
 -- ## Members
 
@@ -95,7 +95,7 @@ made_has s (Union p) h = absurd (let e : false ≡ true = h in cc)
 made_has s (Enum p) h = absurd (let e : false ≡ true = h in cc)
 
 pub members : (s : Scene) → list_all has_member (types_of s) ≡ true
-members s = table_all s has_member refl (record { nothing = refl; by_bodies = λ b h e. body_has s b b.body; by_made = λ t h i. made_has s t h })
+members s = table_all s has_member refl (record { nothing = refl; by_bodies = λ b h e. body_has s b b.body; by_made = λ t h i. made_has s t h; letter = refl })
 
 -- ## Types that are named
 
@@ -168,7 +168,7 @@ made_known s k (Enum p) h i = absurd (let e : false ≡ true = h in cc)
 pub types_known : (s : Scene) → IsKept s → list_all (λ d. list_all (is_in_table (types_of s)) (named_types d)) (types_of s) ≡ true
 types_known s k =
     table_all s (λ d. list_all (is_in_table (types_of s)) (named_types d)) refl
-    (record { nothing = refl; by_bodies = λ b h e. body_known s k b h; by_made = made_known s k })
+    (record { nothing = refl; by_bodies = λ b h e. body_known s k b h; by_made = made_known s k; letter = refl })
 
 -- ## Nesting
 
@@ -250,7 +250,7 @@ pub nesting : (s : Scene) → IsKept s → list_all (is_shallow (types_of s)) (t
 unfolding is_shallow
 nesting s k =
     numbers_all (λ o. list_all (nest s) (layout.parts o)) (types_of s)
-    (table_all s (λ d. list_all (nest s) (layout.parts (Some d))) refl (record { nothing = refl; by_bodies = body_shallow s k; by_made = made_shallow s k }))
+    (table_all s (λ d. list_all (nest s) (layout.parts (Some d))) refl (record { nothing = refl; by_bodies = body_shallow s k; by_made = made_shallow s k; letter = refl }))
 
 -- ## Tags
 
@@ -287,4 +287,5 @@ tags s k =
       by_bodies = λ b h e. each_all (λ t. is_switch_type (type_at (types_of s) t)) (tag_of (defined_by s b b.body))
           (tag_each s k (λ n. is_switch_type (type_at (types_of s) n) ≡ true) (λ t m i. ap is_switch_type (at_its_number s t i) ∙ switched_there s t m) b h);
       by_made = λ t h i. made_tagged s t h;
+      letter = refl;
     })

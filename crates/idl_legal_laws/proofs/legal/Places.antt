@@ -237,7 +237,7 @@ made_elements s k (Enum p) h i = absurd (let e : false ≡ true = h in cc)
 pub array_elements : (s : Scene) → IsKept s → list_all (legal.has_simple_element (types_of s)) (types_of s) ≡ true
 array_elements s k =
     table_all s (legal.has_simple_element (types_of s)) refl
-    (record { nothing = refl; by_bodies = λ b h e. body_elements (types_of s) s b b.body; by_made = made_elements s k })
+    (record { nothing = refl; by_bodies = λ b h e. body_elements (types_of s) s b b.body; by_made = made_elements s k; letter = refl })
 
 -- ## Pipes
 
@@ -327,7 +327,7 @@ made_pipes s k (Enum p) h i = absurd (let e : false ≡ true = h in cc)
 
 pub pipe_elements : (s : Scene) → IsKept s → list_all (legal.has_pipe_element (types_of s)) (types_of s) ≡ true
 pipe_elements s k =
-    table_all s (legal.has_pipe_element (types_of s)) refl (record { nothing = refl; by_bodies = λ b h e. body_pipes (types_of s) s b b.body; by_made = made_pipes s k })
+    table_all s (legal.has_pipe_element (types_of s)) refl (record { nothing = refl; by_bodies = λ b h e. body_pipes (types_of s) s b b.body; by_made = made_pipes s k; letter = refl })
 
 -- ## Members that hoist
 
@@ -392,7 +392,7 @@ made_no_members types s (Enum p) h = absurd (let e : false ≡ true = h in cc)
 pub hoisting_members : (s : Scene) → IsKept s → list_all (λ d. legal.only_last_hoists (types_of s) (members_of d)) (types_of s) ≡ true
 hoisting_members s k =
     table_all s (λ d. legal.only_last_hoists (types_of s) (members_of d)) refl
-    (record { nothing = refl; by_bodies = λ b h e. body_hoists s k b.names b.construct b.body h; by_made = λ t h i. made_no_members (types_of s) s t h })
+    (record { nothing = refl; by_bodies = λ b h e. body_hoists s k b.names b.construct b.body h; by_made = λ t h i. made_no_members (types_of s) s t h; letter = refl })
 
 -- ## Arms
 
@@ -461,4 +461,4 @@ made_no_arms types s (Enum p) h = absurd (let e : false ≡ true = h in cc)
 pub hoisting_arms : (s : Scene) → IsKept s → list_all (λ d. list_all (λ t. not (layout.hoists (types_of s) t)) (legal.arms_of d)) (types_of s) ≡ true
 hoisting_arms s k =
     table_all s (λ d. list_all (λ t. not (layout.hoists (types_of s) t)) (legal.arms_of d)) refl
-    (record { nothing = refl; by_bodies = λ b h e. body_arms s k b h; by_made = λ t h i. made_no_arms (types_of s) s t h })
+    (record { nothing = refl; by_bodies = λ b h e. body_arms s k b h; by_made = λ t h i. made_no_arms (types_of s) s t h; letter = refl })

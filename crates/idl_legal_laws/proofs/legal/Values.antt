@@ -78,7 +78,7 @@ made_small s (Enum p) h = absurd (let e : false ≡ true = h in cc)
 
 pub enumerators : (s : Scene) → IsKept s → list_all has_small_values (types_of s) ≡ true
 enumerators s k =
-    table_all s has_small_values refl (record { nothing = refl; by_bodies = λ b h e. body_small s k b.names b.construct b.body h; by_made = λ t h i. made_small s t h })
+    table_all s has_small_values refl (record { nothing = refl; by_bodies = λ b h e. body_small s k b.names b.construct b.body h; by_made = λ t h i. made_small s t h; letter = refl })
 
 -- ## Labels
 
@@ -217,7 +217,7 @@ made_labels s (Enum p) h = absurd (let e : false ≡ true = h in cc)
 pub labels : (s : Scene) → IsKept s → list_all (has_tag_labels (types_of s)) (types_of s) ≡ true
 labels s k =
     table_all s (has_tag_labels (types_of s)) refl
-    (record { nothing = refl; by_bodies = λ b h e. body_labels s k b.names b.construct b.body h; by_made = λ t h i. made_labels s t h })
+    (record { nothing = refl; by_bodies = λ b h e. body_labels s k b.names b.construct b.body h; by_made = λ t h i. made_labels s t h; letter = refl })
 
 -- ## Labels that differ
 
@@ -328,4 +328,4 @@ made_distinct s (Enum p) h = absurd (let e : false ≡ true = h in cc)
 
 pub distinct_labels : (s : Scene) → IsKept s → list_all has_distinct_labels (types_of s) ≡ true
 distinct_labels s k =
-    table_all s has_distinct_labels refl (record { nothing = refl; by_bodies = λ b h e. body_distinct s k b.names b.construct b.body h; by_made = λ t h i. made_distinct s t h })
+    table_all s has_distinct_labels refl (record { nothing = refl; by_bodies = λ b h e. body_distinct s k b.names b.construct b.body h; by_made = λ t h i. made_distinct s t h; letter = refl })
