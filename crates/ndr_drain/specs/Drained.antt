@@ -13,8 +13,7 @@ use Rattle.nd_grammar.specs.declared.reason.Reason.TheVariants as reason
 use Rattle.nd_grammar.specs.Stream.{kids_of}
 use Rattle.nd_grammar.specs.Entry.{EntryAt}
 use Rattle.nd_grammar.specs.decoded.Verdict.{DecodingSeen, IsCutOff, IsDecoded, IsRefused, IsUnread}
-use Rattle.text_grammar.specs.declared.version.Version.TheVariants as version
-use Rattle.text_grammar.specs.Written.{value_text}
+use Rattle.text_grammar.specs.Written.{value_text, version_for}
 use Rattle.ndr_drain_laws.specs.parts.Parts.{Spot, Part, after, elem_at, elem_by, AreReadTo, BadPart, IsPart, IsPartThrough, after_all, first_spot}
 use Rattle.ndr_drain_laws.specs.parts.Parts.{octets_of, without_pipes}
 use Rattle.ndr_drain_reader.specs.Calls.{IsHeadCut, IsHeadRefused, IsHeadUnread}
@@ -28,7 +27,7 @@ use Rattle.ndr_drain.specs.declared.fault.DrainFault.TheVariants.{Memory, ReadFa
 
 -- the line of an element
 abbrev pub line_of : Table → ℕ → Tree → List ℕ
-line_of table t v = value_text version.Two table t v ++ 10 ∷ []
+line_of table t v = value_text (version_for table) table t v ++ 10 ∷ []
 
 -- the lines of elements of a type
 abbrev pub lines : Table → ℕ → List Tree → List ℕ
