@@ -24,7 +24,7 @@ use Rattle.text_grammar.specs.declared.version.Version.{Version}
 use Rattle.text_grammar.specs.declared.fault.TextReason.{TextReason}
 use Rattle.text_grammar.specs.declared.fault.TextReason.TheVariants as reason
 use Rattle.text_grammar.specs.declared.TheConstants.{TEXT_LIMIT}
-use Rattle.text_grammar.specs.Tokens.{Token, Word, Number, Cell, Str, Bytes, Uuid, Mark, skip, cutting, after, IsCut, Begins}
+use Rattle.text_grammar.specs.Tokens.{Token, Word, Number, Cell, Str, Bytes, Letters, Uuid, Mark, skip, cutting, after, IsCut, Begins}
 use Rattle.text_grammar.specs.Written.{Piece, Name, Other, token_of, comma, writes_octets, graph_pieces, graph_tokens}
 use Rattle.text_grammar.specs.Reads.{IsReadable, Lexeme, Cut, End, Bad, IsNext, CanGoOn, IsWhole, GoesOn, IsNameDue, IsReason, IsFirstFault}
 use Rattle.text_grammar.specs.Dues.{Due, This, AVersion, ANumber, ACount, AString, SomeBytes, AUuid, ATag, APointer, FirstElement, NextElement, AValue, ACellLine, Reading, value_dues, list_dues}
@@ -86,6 +86,7 @@ module _ (v : Version) (nb : List (ℕ × ℕ)) (k : ℕ) (table : Table) where
   plain_why due (ANumber ∷ ds) (Number z) why h e = cc
   plain_why due (AString ∷ ds) (Str octets) why h e = cc
   plain_why due (SomeBytes ∷ ds) (Bytes octets) why h e = cc
+  plain_why due (SomeLetters ∷ ds) (Letters octets) why h e = cc
   plain_why due (AUuid ∷ ds) (Uuid id) why h e = cc
   plain_why due (ATag arms default ∷ ds) (Number z) why h e = cc
   plain_why due (APointer to ∷ ds) (Cell c) why h e = cc

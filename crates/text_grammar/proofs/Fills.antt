@@ -14,7 +14,7 @@ use Rattle.nd_types.specs.Table.{Table, type_at, selected}
 use Rattle.nd_types.specs.Legal.{is_in_table}
 use Rattle.nd_value.specs.Nodes.{selected_types}
 use Rattle.text_grammar.specs.declared.version.Version.{Version}
-use Rattle.text_grammar.specs.Tokens.{Token, Word, Number, Str, Bytes, Uuid, Mark}
+use Rattle.text_grammar.specs.Tokens.{Token, Word, Number, Str, Bytes, Letters, Uuid, Mark}
 use Rattle.text_grammar.specs.Written.{Piece, Name, Other, token_of, comma, word, writes_octets}
 use Rattle.text_grammar.specs.Dues.{Due, This, AVersion, ANumber, ACount, AString, SomeBytes, AUuid, ATag, APointer, FirstElement, NextElement, AValue, ACellLine, separated_dues, count_dues}
 use Rattle.text_grammar.specs.Dues.{list_dues, arm_dues, value_dues, is_this, why_not, went_on_if, all_read}
@@ -39,6 +39,7 @@ is_good table ANumber = true
 is_good table ACount = true
 is_good table AString = true
 is_good table SomeBytes = true
+is_good table SomeLetters = true
 is_good table AUuid = true
 is_good table (ATag arms default) = list_all (is_in_table table) (arm_types arms ++ default_type default)
 is_good table (APointer to) = is_in_table table to
@@ -239,6 +240,7 @@ module _ (table : Table) (v : Version) where
     fill_due n shallow ACount h = fill_count
     fill_due n shallow AString h = fill_string
     fill_due n shallow SomeBytes h = fill_bytes
+    fill_due n shallow SomeLetters h = fill_letters
     fill_due n shallow AUuid h = fill_uuid
     fill_due n shallow (ATag arms default) h =
         let ts : List ℕ = selected_types (selected arms default (pos 0)) in

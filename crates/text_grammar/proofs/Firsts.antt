@@ -5,17 +5,17 @@ use Rattle.std.specs.Fmt.{decimal, signed_decimal}
 use Rattle.std.proofs.lemmas.Bool.{cond-true, and_parts, and_from, both_ways}
 use Rattle.std.proofs.lemmas.Bool.Decides.{nat_tests}
 use Rattle.nd_base.specs.Text.{is_word, is_word_octet, is_letter, is_digit, has_form, uuid_form}
-use Rattle.text_grammar.specs.Tokens.{Token, Word, Number, Cell, Str, Bytes, Uuid, Mark, Spells, is_uuid, is_bytes, is_mark, ends_run, IsString, IsByteString, character, hex_pair}
+use Rattle.text_grammar.specs.Tokens.{Token, Word, Number, Cell, Str, Bytes, Letters, Uuid, Mark, Spells, is_uuid, is_bytes, is_mark, ends_run, IsString, IsByteString, character, hex_pair}
 use Rattle.text_grammar.proofs.Classes.{letter_word}
 use Rattle.text_grammar.proofs.Runs.{one_run}
 use Rattle.text_grammar.proofs.Numerals.{written, decimal_digits, digits_are_words, one_decimal}
-use Rattle.text_grammar.proofs.Quoted.{character_quote, pair_quote, character_less, pair_less, one_quoted, quoted_less}
+use Rattle.text_grammar.proofs.Quoted.{character_quote, pair_quote, letter_quote, character_less, pair_less, letter_less, one_quoted, quoted_less}
 
 -- what an octet can begin: a word, a number, a cell's mark, a string, a mark
 abbrev pub kind_of : ℕ → ℕ
 kind_of c = cond (is_letter c) 0 (cond (is_digit c || eqb c 45) 1 (cond (eqb c 64) 2 (cond (eqb c 34) 3 4)))
 
--- the kind of a token: bytes begin as a word does, and a UUID, which is due in one place alone, is of none
+-- the kind of a token: bytes and letters begin as a word does, and a UUID, which is due in one place alone, is of none
 abbrev pub kind : Token → ℕ
 kind (Word octets) = 0
 kind (Number z) = 1
@@ -23,6 +23,7 @@ kind (Cell c) = 2
 kind (Str octets) = 3
 kind (Mark c) = 4
 kind (Bytes octets) = 0
+kind (Letters units) = 0
 kind (Uuid id) = 5
 
 pub letter_kind : (c : ℕ) → is_letter c ≡ true → kind_of c ≡ 0
@@ -60,6 +61,7 @@ begins_as (Number (negsuc n)) text rest u s = record { first = 45; others = deci
 begins_as (Cell c) text rest u s = record { first = 64; others = decimal c ++ rest; is = s.0; of_kind = refl }
 begins_as (Str octets) text rest u s = record { first = 34; others = s.0; is = s.1; of_kind = refl }
 begins_as (Bytes octets) text rest u s = record { first = 120; others = 34 ∷ s.0; is = s.1; of_kind = refl }
+begins_as (Letters units) text rest u s = record { first = 117; others = 34 ∷ s.0; is = s.1; of_kind = refl }
 begins_as (Uuid id) text rest u s = absurd (both_ways true u refl)
 begins_as (Mark m) text rest u s = record { first = m; others = rest; is = s.0; of_kind = mark_kind m s.1 }
 
@@ -100,71 +102,89 @@ one_number (negsuc m) (negsuc n) rest after p q a b e =
     (ap negsuc f, r.1)
 
 -- One token stands first, and is followed by one rest.
-pub one_first : (t u : Token) (text rest after : List ℕ) → is_uuid t ≡ false → is_uuid u ≡ false → is_bytes t ≡ is_bytes u → Spells text t rest → Spells text u after → (t ≡ u) × (rest ≡ after)
-one_first t u text rest after a b d s r = by t u a b d s r (same_kind t u text (begins_as t text rest a s) (begins_as u text after b r)) where
-  by : (t u : Token) → is_uuid t ≡ false → is_uuid u ≡ false → is_bytes t ≡ is_bytes u → Spells text t rest → Spells text u after → kind t ≡ kind u → (t ≡ u) × (rest ≡ after)
-  by (Word v) (Word w) a b d s r k =
+pub one_first : (t u : Token) (text rest after : List ℕ) → is_uuid t ≡ false → is_uuid u ≡ false → is_bytes t ≡ is_bytes u → is_letters t ≡ is_letters u → Spells text t rest → Spells text u after → (t ≡ u) × (rest ≡ after)
+one_first t u text rest after a b d g s r = by t u a b d g s r (same_kind t u text (begins_as t text rest a s) (begins_as u text after b r)) where
+  by : (t u : Token) → is_uuid t ≡ false → is_uuid u ≡ false → is_bytes t ≡ is_bytes u → is_letters t ≡ is_letters u → Spells text t rest → Spells text u after → kind t ≡ kind u → (t ≡ u) × (rest ≡ after)
+  by (Word v) (Word w) a b d g s r k =
       let h = one_run v w rest after (word_octets v s.1) (word_octets w r.1) s.2 r.2 (sym s.0 ∙ r.0) in
       (ap (λ (l : List ℕ). Word l) h.0, h.1)
-  by (Number y) (Number z) a b d s r k =
+  by (Number y) (Number z) a b d g s r k =
       let h = one_number y z rest after s.1 r.1 s.2 r.2 (sym s.0 ∙ r.0) in
       (ap (λ (x : ℤ). Number x) h.0, h.1)
-  by (Cell m) (Cell n) a b d s r k =
+  by (Cell m) (Cell n) a b d g s r k =
       let e : 64 ∷ (decimal m ++ rest) ≡ 64 ∷ (decimal n ++ after) = sym s.0 ∙ r.0 in
       let e' : decimal m ++ rest ≡ decimal n ++ after = cc in
       let h = one_natural m n rest after (cell_wide m s.2) (cell_wide n r.2) s.3 r.3 e' in
       (ap (λ (x : ℕ). Cell x) h.0, h.1)
-  by (Str v) (Str w) a b d s r k =
+  by (Str v) (Str w) a b d g s r k =
       let e : 34 ∷ s.0 ≡ 34 ∷ r.0 = sym s.1 ∙ r.1 in
       let e' : s.0 ≡ r.0 = cc in
       let h = one_quoted character character_quote v w r.0 rest after (subst (λ (l : List ℕ). IsString l v rest) e' s.2) r.2 in
       (ap (λ (l : List ℕ). Str l) h.0, h.1)
-  by (Bytes v) (Bytes w) a b d s r k =
+  by (Bytes v) (Bytes w) a b d g s r k =
       let e : 120 ∷ 34 ∷ s.0 ≡ 120 ∷ 34 ∷ r.0 = sym s.1 ∙ r.1 in
       let e' : s.0 ≡ r.0 = cc in
       let h = one_quoted hex_pair pair_quote v w r.0 rest after (subst (λ (l : List ℕ). IsByteString l v rest) e' s.2) r.2 in
       (ap (λ (l : List ℕ). Bytes l) h.0, h.1)
-  by (Mark m) (Mark n) a b d s r k =
+  by (Letters v) (Letters w) a b d g s r k =
+      let e : 117 ∷ 34 ∷ s.0 ≡ 117 ∷ 34 ∷ r.0 = sym s.1 ∙ r.1 in
+      let e' : s.0 ≡ r.0 = cc in
+      let h = one_quoted letter letter_quote v w r.0 rest after (subst (λ (l : List ℕ). IsLetterString l v rest) e' s.2) r.2 in
+      (ap (λ (l : List ℕ). Letters l) h.0, h.1)
+  by (Bytes v) (Letters w) a b d g s r k = absurd (both_ways true d refl)
+  by (Letters v) (Bytes w) a b d g s r k = absurd (both_ways true g refl)
+  by (Mark m) (Mark n) a b d g s r k =
       let e : m ∷ rest ≡ n ∷ after = sym s.0 ∙ r.0 in
       let f : m ≡ n = cc in
       (ap (λ (x : ℕ). Mark x) f, cc)
-  by (Uuid v) u a b d s r k = absurd (both_ways true a refl)
-  by (Word v) (Number w) a b d s r k = cc
-  by (Word v) (Cell w) a b d s r k = cc
-  by (Word v) (Str w) a b d s r k = cc
-  by (Word v) (Bytes w) a b d s r k = cc
-  by (Word v) (Mark w) a b d s r k = cc
-  by (Word v) (Uuid w) a b d s r k = cc
-  by (Number v) (Word w) a b d s r k = cc
-  by (Number v) (Cell w) a b d s r k = cc
-  by (Number v) (Str w) a b d s r k = cc
-  by (Number v) (Bytes w) a b d s r k = cc
-  by (Number v) (Mark w) a b d s r k = cc
-  by (Number v) (Uuid w) a b d s r k = cc
-  by (Cell v) (Word w) a b d s r k = cc
-  by (Cell v) (Number w) a b d s r k = cc
-  by (Cell v) (Str w) a b d s r k = cc
-  by (Cell v) (Bytes w) a b d s r k = cc
-  by (Cell v) (Mark w) a b d s r k = cc
-  by (Cell v) (Uuid w) a b d s r k = cc
-  by (Str v) (Word w) a b d s r k = cc
-  by (Str v) (Number w) a b d s r k = cc
-  by (Str v) (Cell w) a b d s r k = cc
-  by (Str v) (Bytes w) a b d s r k = cc
-  by (Str v) (Mark w) a b d s r k = cc
-  by (Str v) (Uuid w) a b d s r k = cc
-  by (Bytes v) (Word w) a b d s r k = cc
-  by (Bytes v) (Number w) a b d s r k = cc
-  by (Bytes v) (Cell w) a b d s r k = cc
-  by (Bytes v) (Str w) a b d s r k = cc
-  by (Bytes v) (Mark w) a b d s r k = cc
-  by (Bytes v) (Uuid w) a b d s r k = cc
-  by (Mark v) (Word w) a b d s r k = cc
-  by (Mark v) (Number w) a b d s r k = cc
-  by (Mark v) (Cell w) a b d s r k = cc
-  by (Mark v) (Str w) a b d s r k = cc
-  by (Mark v) (Bytes w) a b d s r k = cc
-  by (Mark v) (Uuid w) a b d s r k = cc
+  by (Uuid v) u a b d g s r k = absurd (both_ways true a refl)
+  by (Word v) (Number w) a b d g s r k = cc
+  by (Word v) (Cell w) a b d g s r k = cc
+  by (Word v) (Str w) a b d g s r k = cc
+  by (Word v) (Bytes w) a b d g s r k = cc
+  by (Word v) (Letters w) a b d g s r k = cc
+  by (Word v) (Mark w) a b d g s r k = cc
+  by (Word v) (Uuid w) a b d g s r k = cc
+  by (Number v) (Word w) a b d g s r k = cc
+  by (Number v) (Cell w) a b d g s r k = cc
+  by (Number v) (Str w) a b d g s r k = cc
+  by (Number v) (Bytes w) a b d g s r k = cc
+  by (Number v) (Letters w) a b d g s r k = cc
+  by (Number v) (Mark w) a b d g s r k = cc
+  by (Number v) (Uuid w) a b d g s r k = cc
+  by (Cell v) (Word w) a b d g s r k = cc
+  by (Cell v) (Number w) a b d g s r k = cc
+  by (Cell v) (Str w) a b d g s r k = cc
+  by (Cell v) (Bytes w) a b d g s r k = cc
+  by (Cell v) (Letters w) a b d g s r k = cc
+  by (Cell v) (Mark w) a b d g s r k = cc
+  by (Cell v) (Uuid w) a b d g s r k = cc
+  by (Str v) (Word w) a b d g s r k = cc
+  by (Str v) (Number w) a b d g s r k = cc
+  by (Str v) (Cell w) a b d g s r k = cc
+  by (Str v) (Bytes w) a b d g s r k = cc
+  by (Str v) (Letters w) a b d g s r k = cc
+  by (Str v) (Mark w) a b d g s r k = cc
+  by (Str v) (Uuid w) a b d g s r k = cc
+  by (Bytes v) (Word w) a b d g s r k = cc
+  by (Letters v) (Word w) a b d g s r k = cc
+  by (Bytes v) (Number w) a b d g s r k = cc
+  by (Letters v) (Number w) a b d g s r k = cc
+  by (Bytes v) (Cell w) a b d g s r k = cc
+  by (Letters v) (Cell w) a b d g s r k = cc
+  by (Bytes v) (Str w) a b d g s r k = cc
+  by (Letters v) (Str w) a b d g s r k = cc
+  by (Bytes v) (Mark w) a b d g s r k = cc
+  by (Letters v) (Mark w) a b d g s r k = cc
+  by (Bytes v) (Uuid w) a b d g s r k = cc
+  by (Letters v) (Uuid w) a b d g s r k = cc
+  by (Mark v) (Word w) a b d g s r k = cc
+  by (Mark v) (Number w) a b d g s r k = cc
+  by (Mark v) (Cell w) a b d g s r k = cc
+  by (Mark v) (Str w) a b d g s r k = cc
+  by (Mark v) (Bytes w) a b d g s r k = cc
+  by (Mark v) (Letters w) a b d g s r k = cc
+  by (Mark v) (Uuid w) a b d g s r k = cc
 
 -- ## What follows is shorter
 
@@ -181,6 +201,7 @@ spells_less (Number z) text rest s =
 spells_less (Cell c) text rest s = omega (arith, ap length s.0, length-append (decimal c) rest)
 spells_less (Str octets) text rest s = omega (arith, ap length s.1, quoted_less character character_less octets s.0 rest s.2)
 spells_less (Bytes octets) text rest s = omega (arith, ap length s.1, quoted_less hex_pair pair_less octets s.0 rest s.2)
+spells_less (Letters units) text rest s = omega (arith, ap length s.1, quoted_less letter letter_less units s.0 rest s.2)
 spells_less (Uuid id) text rest s = omega (arith, ap length s.1, length-append s.0 rest, some_form s.0 s.2)
   where
     some_form : (octets : List ℕ) → has_form uuid_form octets ≡ true → 0 < length octets

@@ -19,7 +19,7 @@ use Rattle.text_grammar.specs.declared.version.Version.{Version}
 use Rattle.text_grammar.specs.declared.version.Version.TheVariants as version
 use Rattle.text_grammar.specs.declared.fault.TextReason.{TextReason}
 use Rattle.text_grammar.specs.declared.fault.TextReason.TheVariants as reason
-use Rattle.text_grammar.specs.Tokens.{Token, Word, Number, Cell, Str, Bytes, Uuid, Mark}
+use Rattle.text_grammar.specs.Tokens.{Token, Word, Number, Cell, Str, Bytes, Letters, Uuid, Mark}
 use Rattle.text_grammar.specs.Written.{Name, Other, comma, colon, equals, word, side_word, writes_octets}
 use Rattle.text_grammar.specs.Dues.{Due, This, AVersion, ANumber, ACount, AString, SomeBytes, AUuid, ATag, APointer, FirstElement, NextElement, AValue, ACellLine, Reading, separated_dues, count_dues}
 use Rattle.text_grammar.specs.Dues.{list_dues, arm_dues, value_dues, root_dues, nothing_read, named_type, with_name, opened, due_at, closes, is_this, why_not, is_count_token, version_of, went_on_if}
@@ -160,6 +160,7 @@ module _ (table : Table) (known : KnowsTypes table) where
     at_token tok (ACount ∷ fs) h = record { front = ACount ∷ fs; is = refl; good = h }
     at_token tok (AString ∷ fs) h = record { front = AString ∷ fs; is = refl; good = h }
     at_token tok (SomeBytes ∷ fs) h = record { front = SomeBytes ∷ fs; is = refl; good = h }
+    at_token tok (SomeLetters ∷ fs) h = record { front = SomeLetters ∷ fs; is = refl; good = h }
     at_token tok (AUuid ∷ fs) h = record { front = AUuid ∷ fs; is = refl; good = h }
     at_token tok (ATag arms default ∷ fs) h = record { front = ATag arms default ∷ fs; is = refl; good = h }
     at_token tok (APointer to ∷ fs) h = record { front = APointer to ∷ fs; is = refl; good = h }
@@ -193,6 +194,7 @@ module _ (table : Table) (known : KnowsTypes table) where
       took (Number z) (ACount ∷ fs) h y e = goes_if (is_count_token z) fs reason.Expected y h e
       took (Str octets) (AString ∷ fs) h y e = goes fs v y h e
       took (Bytes octets) (SomeBytes ∷ fs) h y e = goes fs v y h e
+      took (Letters octets) (SomeLetters ∷ fs) h y e = goes fs v y h e
       took (Uuid id) (AUuid ∷ fs) h y e = goes fs v y h e
       took (Number z) (ATag arms default ∷ fs) h y e =
           let p = and_parts (list_all (is_in_table table) (arm_types arms ++ default_type default)) (list_all (may_come table) fs) h in

@@ -19,7 +19,7 @@ use Rattle.nd_value.specs.Misfit.{is_count}
 use Rattle.text_grammar.specs.declared.version.Version.{Version}
 use Rattle.text_grammar.specs.declared.fault.TextReason.{TextReason}
 use Rattle.text_grammar.specs.declared.fault.TextReason.TheVariants as reason
-use Rattle.text_grammar.specs.Tokens.{Word, Number, Cell, Str, Bytes, Uuid, Mark}
+use Rattle.text_grammar.specs.Tokens.{Word, Number, Cell, Str, Bytes, Letters, Uuid, Mark}
 use Rattle.text_grammar.specs.Written.{Piece, Name, Other, token_of, comma, colon, equals, separated, members, named, units_in, writes_octets, list_pieces, array_counts, arm_pieces, node_pieces}
 use Rattle.text_grammar.specs.Written.{values_pieces, value_pieces}
 use Rattle.text_grammar.specs.Reads.{has_offset, has_maximum, has_text_form}

@@ -6,7 +6,7 @@ use Rattle.nd_value.specs.declared.value.Graph.{Graph}
 use Rattle.nd_value.specs.Setting.{Setting}
 use Rattle.text_grammar.specs.declared.fault.TextReason.{TextReason}
 use Rattle.text_grammar.specs.declared.fault.TextReason.TheVariants as reason
-use Rattle.text_grammar.specs.Tokens.{Token, Word, Number, Cell, Str, Bytes, Uuid, Mark, Spells, is_uuid, is_bytes, IsCut, Begins, skip, Cutting, cutting, after, uuid_octets}
+use Rattle.text_grammar.specs.Tokens.{Token, Word, Number, Cell, Str, Bytes, Letters, Uuid, Mark, Spells, is_uuid, is_bytes, IsCut, Begins, skip, Cutting, cutting, after, uuid_octets}
 use Rattle.text_grammar.specs.Written.{graph_tokens}
 use Rattle.text_grammar.specs.Reads.{ReadsAs, Lexeme, Cut, End, Bad, IsNext, CanGoOn, GoesOn, IsReason, IsFirstFault, IsTextFault}
 use Rattle.text_grammar.proofs.Runs.{skip_less}
@@ -49,6 +49,7 @@ one_cut how text t u rest end a b = by t u a.spelled b.spelled (a.uuid ∙ sym b
   by (Uuid v) (Cell w) s r e d = cc
   by (Uuid v) (Str w) s r e d = cc
   by (Uuid v) (Bytes w) s r e d = cc
+  by (Uuid v) (Letters w) s r e d = cc
   by (Uuid v) (Mark w) s r e d = cc
   by (Word v) u s r e d = one_first (Word v) u (skip text) rest end refl (sym e) d s r
   by (Number v) u s r e d = one_first (Number v) u (skip text) rest end refl (sym e) d s r

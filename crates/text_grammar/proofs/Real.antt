@@ -8,7 +8,7 @@ use Rattle.std.proofs.lemmas.Bool.Decides.{nat_tests}
 use Rattle.std.proofs.lemmas.Option.{same_Some}
 use Rattle.nd_base.specs.Text.{is_digit, is_hex_digit, hex_value, has_form, uuid_form}
 use Rattle.nd_value.specs.Misfit.{is_octet, is_count}
-use Rattle.text_grammar.specs.Tokens.{Token, Word, Number, Cell, Str, Bytes, Uuid, Mark, Spells, Begins, skip, character, escape, hex_pair, is_plain, IsQuoted, hex_octets, uuid_octets}
+use Rattle.text_grammar.specs.Tokens.{Token, Word, Number, Cell, Str, Bytes, Letters, Uuid, Mark, Spells, Begins, skip, character, escape, hex_pair, is_plain, IsQuoted, hex_octets, uuid_octets}
 use Rattle.text_grammar.proofs.Classes.{digit_range, is_no_hyphen, digit_no_hyphen}
 use Rattle.text_grammar.specs.Real.{is_real}
 use Rattle.text_grammar.proofs.Quoted.{First}
@@ -123,6 +123,7 @@ spells_real (Number z) text rest s = refl
 spells_real (Cell c) text rest s = and_from (not (eqb c 0)) (is_count c) (ap not (ne_eqb c 0 (λ e. omega (arith, s.1, e)))) (lt-ltb c (2 ^ 32) s.2)
 spells_real (Str octets) text rest s = quoted_octets character character_is_octet s.0 octets rest s.2
 spells_real (Bytes octets) text rest s = quoted_octets hex_pair pair_is_octet s.0 octets rest s.2
+spells_real (Letters units) text rest s = quoted_units is_letter_unit letter letter_is_unit s.0 units rest s.2
 spells_real (Uuid id) text rest s =
     let d = form_digits uuid_form s.0 s.2 in
     let r = hex_pairs 16 (filter is_no_hyphen s.0) d.many d.digits in

@@ -5,7 +5,7 @@ use Rattle.std.specs.Prelude.{pos}
 use Rattle.std.proofs.lemmas.Bool.{and_left, eqb-true, not-true}
 use Rattle.text_grammar.specs.declared.version.Version.{Version}
 use Rattle.text_grammar.specs.declared.version.Version.TheVariants as version
-use Rattle.text_grammar.specs.Tokens.{Token, Word, Number, Cell, Str, Bytes, Uuid, Mark, cutting, uuid_due, has_version (pos 2)}
+use Rattle.text_grammar.specs.Tokens.{Token, Word, Number, Cell, Str, Bytes, Letters, Uuid, Mark, cutting, uuid_due, has_version (pos 2)}
 use Rattle.text_grammar.specs.Written.{version_number, is_comma}
 use Rattle.text_grammar.specs.Settled.{has_bytes, IsCalm, has_two, IsSettled, is_simple}
 
@@ -39,6 +39,7 @@ no_uuid (Number m) before h = refl
 no_uuid (Cell m) before h = refl
 no_uuid (Str m) before h = refl
 no_uuid (Bytes m) before h = refl
+no_uuid (Letters m) before h = refl
 no_uuid (Uuid m) before h = refl
 
 mark_now : (m : ℕ) (before : List Token) → IsCalm before → uuid_due (Mark m ∷ before) ≡ false

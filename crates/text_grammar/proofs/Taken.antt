@@ -24,7 +24,7 @@ use Rattle.nd_value.specs.Tree.{Tree, Trees, node, none, more, count, Label}
 use Rattle.nd_value.specs.Nodes.{child_types, selected_types}
 use Rattle.nd_value.specs.Misfit.{is_octet, is_count}
 use Rattle.text_grammar.specs.declared.version.Version.{Version}
-use Rattle.text_grammar.specs.Tokens.{Token, Word, Number, Cell, Str, Bytes, Uuid, Mark}
+use Rattle.text_grammar.specs.Tokens.{Token, Word, Number, Cell, Str, Bytes, Letters, Uuid, Mark}
 use Rattle.text_grammar.specs.Written.{Piece, Name, Other, token_of, comma, colon, equals, word, separated, members, named, units_in, writes_octets, list_pieces, arm_pieces, node_pieces}
 use Rattle.text_grammar.specs.Written.{values_pieces, value_pieces}
 use Rattle.text_grammar.specs.Reads.{has_maximum, has_offset, are_octets, may_be_elements, has_text_form}

@@ -6,7 +6,7 @@ use Rattle.std.proofs.lemmas.Slice.Eq.{bytes_eq-Decides}
 use Rattle.std.proofs.lemmas.Option.{same_Some}
 use Rattle.std.proofs.lemmas.Bool.{and_parts, eqb-true, ltb-true}
 use Rattle.nd_base.specs.Text.{is_letter, has_form, uuid_form}
-use Rattle.text_grammar.specs.Tokens.{Token, Word, Number, Cell, Str, Bytes, Uuid, Mark, Spells, is_uuid, is_bytes, Cutting, cutting, IsCut, Begins, skip, is_mark, character, hex_pair, begins_bytes}
+use Rattle.text_grammar.specs.Tokens.{Token, Word, Number, Cell, Str, Bytes, Letters, Uuid, Mark, Spells, is_uuid, is_bytes, Cutting, cutting, IsCut, Begins, skip, is_mark, character, hex_pair, begins_bytes}
 use Rattle.text_grammar.specs.Tokens.{IsQuoted, uuid_octets}
 use Rattle.text_grammar.specs.Runs.{run, after_run, begins, number_of, IsNatural}
 use Rattle.text_grammar.proofs.Scanned.{word_first, natural_some}

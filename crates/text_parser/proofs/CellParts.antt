@@ -6,7 +6,7 @@ use Rattle.nd_types.specs.Table.{Table}
 use Rattle.text_grammar.specs.declared.version.Version.{Version}
 use Rattle.text_grammar.specs.declared.fault.TextReason.{TextReason}
 use Rattle.text_grammar.specs.declared.fault.TextReason.TheVariants as reason
-use Rattle.text_grammar.specs.Tokens.{Token, Word, Number, Cell, Str, Bytes, Mark, Cutting, IsCut, skip}
+use Rattle.text_grammar.specs.Tokens.{Token, Word, Number, Cell, Str, Bytes, Letters, Mark, Cutting, IsCut, skip}
 use Rattle.text_grammar.specs.Reads.{Bad, IsNext}
 use Rattle.text_grammar.specs.Dues.{named_type, with_line, next_read}
 use Rattle.text_grammar.specs.Reader.{ComesTo, Stopped, refused, no_token}
@@ -33,6 +33,7 @@ module _ (v : Version) (table : Table) (count : ℕ) (ns : Named) (text here res
   no_cell (lexeme.Cell n) e c some h = cc
   no_cell (lexeme.Str b) e c some h = halts_at (Str c.0) reason.Expected e c.2 refl
   no_cell (lexeme.Bytes b) e c some h = halts_at (Bytes c.0) reason.Expected e c.2 refl
+  no_cell (lexeme.Letters b) e c some h = halts_at (Letters c.0) reason.Expected e c.2 refl
   no_cell (lexeme.Mark m) e c some h = halts_at (Mark m) reason.Expected e c refl
   no_cell lexeme.End e c some h = absurd (some c)
   no_cell lexeme.Bad e c some h = λ before s.
@@ -69,6 +70,7 @@ end_shown v text rest (lexeme.Number z) c = some_octets (plain v) text (Number z
 end_shown v text rest (lexeme.Cell n) c = some_octets (plain v) text (Cell n) rest c
 end_shown v text rest (lexeme.Str b) c = some_octets (plain v) text (Str c.0) rest c.2
 end_shown v text rest (lexeme.Bytes b) c = some_octets (plain v) text (Bytes c.0) rest c.2
+end_shown v text rest (lexeme.Letters b) c = some_octets (plain v) text (Letters c.0) rest c.2
 end_shown v text rest (lexeme.Mark m) c = some_octets (plain v) text (Mark m) rest c
 end_shown v text rest lexeme.End c = c
 end_shown v text rest lexeme.Bad c = c.0

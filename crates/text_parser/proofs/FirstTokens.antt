@@ -6,7 +6,7 @@ use Rattle.std.specs.Fmt.{decimal}
 use Rattle.std.proofs.lemmas.Bool.{and_parts, both_ways}
 use Rattle.std.proofs.lemmas.Bool.Decides.{nat_tests}
 use Rattle.nd_base.specs.Text.{is_word_octet, is_letter}
-use Rattle.text_grammar.specs.Tokens.{Token, Word, Number, Cell, Str, Bytes, Uuid, Mark, Spells, is_uuid, is_bytes, is_mark, IsString}
+use Rattle.text_grammar.specs.Tokens.{Token, Word, Number, Cell, Str, Bytes, Letters, Uuid, Mark, Spells, is_uuid, is_bytes, is_mark, IsString}
 use Rattle.text_grammar.specs.Runs.{run, begins, number_of, IsNatural}
 use Rattle.text_grammar.proofs.Runs.{run_again}
 use Rattle.text_grammar.proofs.Numerals.{decimal_digits, digits_are_words, number_again}
@@ -56,6 +56,7 @@ no_string text body e none = (some_text text 34 body e, λ t after u x s. by t a
       none octets after (subst (λ (l : List ℕ). IsString l octets after) g s.2)
   by (Uuid w) after u x s k = cc
   by (Bytes w) after u x s k = absurd (both_ways true x refl)
+  by (Letters w) after u x s k = absurd (both_ways true x refl)
   by (Mark m) after u x s k = cc
 
 pub no_cell : (text digits : List ℕ) → text ≡ 64 ∷ digits → ((n : ℕ) (rest : List ℕ) → IsNatural digits n rest → 0 < n → n < 2 ^ 32 → ⊥) → NoToken text
@@ -70,6 +71,7 @@ no_cell text digits e none = (some_text text 64 digits e, λ t after u x s. by t
   by (Str octets) after u x s k = cc
   by (Uuid w) after u x s k = cc
   by (Bytes w) after u x s k = absurd (both_ways true x refl)
+  by (Letters w) after u x s k = absurd (both_ways true x refl)
   by (Mark m) after u x s k = cc
 
 pub cell_without_number : (text digits : List ℕ) → text ≡ 64 ∷ digits → ((n : ℕ) (rest : List ℕ) → IsNatural digits n rest → ⊥) → NoToken text
@@ -92,6 +94,7 @@ no_negative text digits e none = (some_text text 45 digits e, λ t after u x s. 
   by (Str octets) after u x s k = cc
   by (Uuid w) after u x s k = cc
   by (Bytes w) after u x s k = absurd (both_ways true x refl)
+  by (Letters w) after u x s k = absurd (both_ways true x refl)
   by (Mark m) after u x s k = cc
 
 pub minus_without_number : (text digits : List ℕ) → text ≡ 45 ∷ digits → ((n : ℕ) (rest : List ℕ) → IsNatural digits n rest → ⊥) → NoToken text
@@ -128,4 +131,5 @@ no_number (c ∷ cs) h none = (λ e. cc, λ t after u x s. by t after u x s) whe
   by (Str octets) after u x s = let f = s.1 in o.2 (let g : c ≡ 34 = cc in g)
   by (Uuid w) after u x s = cc
   by (Bytes w) after u x s = absurd (both_ways true x refl)
+  by (Letters w) after u x s = absurd (both_ways true x refl)
   by (Mark m) after u x s = let f = s.0 in let g : m ≡ c = cc in both_ways (is_mark c) o.1 (ap is_mark (sym g) ∙ s.1)

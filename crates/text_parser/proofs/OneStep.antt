@@ -10,7 +10,7 @@ use Rattle.text_grammar.specs.declared.version.Version.{Version}
 use Rattle.text_grammar.specs.declared.version.Version.TheVariants as version
 use Rattle.text_grammar.specs.declared.fault.TextReason.{TextReason}
 use Rattle.text_grammar.specs.declared.fault.TextReason.TheVariants as reason
-use Rattle.text_grammar.specs.Tokens.{Token, Word, Number, Cell, Str, Bytes, Mark, skip, IsString, IsByteString, IsCut}
+use Rattle.text_grammar.specs.Tokens.{Token, Word, Number, Cell, Str, Bytes, Letters, Mark, skip, IsString, IsByteString, IsCut}
 use Rattle.text_grammar.specs.Written.{Name, Other, version_number}
 use Rattle.text_grammar.specs.Reads.{Cut, End, Bad}
 use Rattle.text_grammar.specs.Dues.{Due, This, AVersion, ANumber, ACount, AString, SomeBytes, APointer, is_count_token, went_on_if, with_version}
@@ -54,6 +54,7 @@ no_mark due (lexeme.Number z) h = λ x ds. refl
 no_mark due (lexeme.Cell c) h = λ x ds. refl
 no_mark due (lexeme.Str body) h = λ octets x ds. refl
 no_mark due (lexeme.Bytes body) h = λ octets x ds. refl
+no_mark due (lexeme.Letters body) h = λ octets x ds. refl
 no_mark due (lexeme.Mark c) h = λ x ds. ap (λ b. went_on_if b x ds reason.Expected) h
 no_mark due lexeme.End h = refl
 no_mark due lexeme.Bad h = refl
@@ -64,6 +65,7 @@ no_word due (lexeme.Number z) h = λ x ds. refl
 no_word due (lexeme.Cell c) h = λ x ds. refl
 no_word due (lexeme.Str body) h = λ octets x ds. refl
 no_word due (lexeme.Bytes body) h = λ octets x ds. refl
+no_word due (lexeme.Letters body) h = λ octets x ds. refl
 no_word due (lexeme.Mark c) h = λ x ds. refl
 no_word due lexeme.End h = refl
 no_word due lexeme.Bad h = refl
@@ -74,6 +76,7 @@ no_name due (lexeme.Number z) h = λ x ds. refl
 no_name due (lexeme.Cell c) h = λ x ds. refl
 no_name due (lexeme.Str body) h = λ octets x ds. refl
 no_name due (lexeme.Bytes body) h = λ octets x ds. refl
+no_name due (lexeme.Letters body) h = λ octets x ds. refl
 no_name due (lexeme.Mark c) h = λ x ds. refl
 no_name due lexeme.End h = refl
 no_name due lexeme.Bad h = refl
@@ -84,6 +87,7 @@ no_number (lexeme.Number z) h = cc
 no_number (lexeme.Cell c) h = λ x ds. refl
 no_number (lexeme.Str body) h = λ octets x ds. refl
 no_number (lexeme.Bytes body) h = λ octets x ds. refl
+no_number (lexeme.Letters body) h = λ octets x ds. refl
 no_number (lexeme.Mark c) h = λ x ds. refl
 no_number lexeme.End h = refl
 no_number lexeme.Bad h = refl
@@ -97,6 +101,7 @@ no_count (lexeme.Number z) h = λ x ds. ap (λ b. went_on_if b x ds reason.Expec
 no_count (lexeme.Cell c) h = λ x ds. refl
 no_count (lexeme.Str body) h = λ octets x ds. refl
 no_count (lexeme.Bytes body) h = λ octets x ds. refl
+no_count (lexeme.Letters body) h = λ octets x ds. refl
 no_count (lexeme.Mark c) h = λ x ds. refl
 no_count lexeme.End h = refl
 no_count lexeme.Bad h = refl
@@ -107,6 +112,7 @@ no_version (lexeme.Number z) h = λ x ds. ap (λ v. with_version x ds v) h
 no_version (lexeme.Cell c) h = λ x ds. refl
 no_version (lexeme.Str body) h = λ octets x ds. refl
 no_version (lexeme.Bytes body) h = λ octets x ds. refl
+no_version (lexeme.Letters body) h = λ octets x ds. refl
 no_version (lexeme.Mark c) h = λ x ds. refl
 no_version lexeme.End h = refl
 no_version lexeme.Bad h = refl
@@ -117,6 +123,7 @@ no_string (lexeme.Number z) h = λ x ds. refl
 no_string (lexeme.Cell c) h = λ x ds. refl
 no_string (lexeme.Str body) h = cc
 no_string (lexeme.Bytes body) h = λ octets x ds. refl
+no_string (lexeme.Letters body) h = λ octets x ds. refl
 no_string (lexeme.Mark c) h = λ x ds. refl
 no_string lexeme.End h = refl
 no_string lexeme.Bad h = refl
@@ -127,6 +134,7 @@ no_bytes (lexeme.Number z) h = λ x ds. refl
 no_bytes (lexeme.Cell c) h = λ x ds. refl
 no_bytes (lexeme.Str body) h = λ octets x ds. refl
 no_bytes (lexeme.Bytes body) h = cc
+no_bytes (lexeme.Letters body) h = cc
 no_bytes (lexeme.Mark c) h = λ x ds. refl
 no_bytes lexeme.End h = refl
 no_bytes lexeme.Bad h = refl
@@ -137,6 +145,7 @@ no_reference to (lexeme.Number z) h n = λ x ds. refl
 no_reference to (lexeme.Cell c) h n = cc
 no_reference to (lexeme.Str body) h n = λ octets x ds. refl
 no_reference to (lexeme.Bytes body) h n = λ octets x ds. refl
+no_reference to (lexeme.Letters body) h n = λ octets x ds. refl
 no_reference to (lexeme.Mark c) h n = λ x ds. refl
 no_reference to lexeme.End h n = refl
 no_reference to lexeme.Bad h n = refl
@@ -154,6 +163,7 @@ module _ (v : Version) (text rest : List ℕ) where
   a_mark due (lexeme.Cell n) c h = cc
   a_mark due (lexeme.Str body) c h = cc
   a_mark due (lexeme.Bytes body) c h = cc
+  a_mark due (lexeme.Letters body) c h = cc
   a_mark due (lexeme.Mark m) c h = subst (λ (x : ℕ). IsCut (plain v) text (Mark x) rest) (eqb-true m due h) c
   a_mark due lexeme.End c h = cc
   a_mark due lexeme.Bad c h = cc
@@ -164,6 +174,7 @@ module _ (v : Version) (text rest : List ℕ) where
   a_word due (lexeme.Cell n) c h = cc
   a_word due (lexeme.Str body) c h = cc
   a_word due (lexeme.Bytes body) c h = cc
+  a_word due (lexeme.Letters body) c h = cc
   a_word due (lexeme.Mark m) c h = cc
   a_word due lexeme.End c h = cc
   a_word due lexeme.Bad c h = cc
@@ -174,6 +185,7 @@ module _ (v : Version) (text rest : List ℕ) where
   a_number z (lexeme.Cell n) c h = cc
   a_number z (lexeme.Str body) c h = cc
   a_number z (lexeme.Bytes body) c h = cc
+  a_number z (lexeme.Letters body) c h = cc
   a_number z (lexeme.Mark m) c h = cc
   a_number z lexeme.End c h = cc
   a_number z lexeme.Bad c h = cc
@@ -187,6 +199,7 @@ module _ (v : Version) (text rest : List ℕ) where
   a_count z (lexeme.Cell n) c h = cc
   a_count z (lexeme.Str body) c h = cc
   a_count z (lexeme.Bytes body) c h = cc
+  a_count z (lexeme.Letters body) c h = cc
   a_count z (lexeme.Mark m) c h = cc
   a_count z lexeme.End c h = cc
   a_count z lexeme.Bad c h = cc
@@ -197,6 +210,7 @@ module _ (v : Version) (text rest : List ℕ) where
   a_string body (lexeme.Cell n) c h = cc
   a_string body (lexeme.Str b) c h = (c.0, subst (λ (x : List ℕ). IsString x c.0 rest) (same_Some _ _ h) c.1, c.2)
   a_string body (lexeme.Bytes b) c h = cc
+  a_string body (lexeme.Letters b) c h = cc
   a_string body (lexeme.Mark m) c h = cc
   a_string body lexeme.End c h = cc
   a_string body lexeme.Bad c h = cc
@@ -217,6 +231,7 @@ module _ (v : Version) (text rest : List ℕ) where
   a_cell n (lexeme.Cell m) c h = subst (λ (x : ℕ). IsCut (plain v) text (Cell x) rest) (same_Some _ _ h) c
   a_cell n (lexeme.Str b) c h = cc
   a_cell n (lexeme.Bytes b) c h = cc
+  a_cell n (lexeme.Letters b) c h = cc
   a_cell n (lexeme.Mark m) c h = cc
   a_cell n lexeme.End c h = cc
   a_cell n lexeme.Bad c h = cc
@@ -235,6 +250,7 @@ module _ (v : Version) (text rest : List ℕ) where
   a_version n (lexeme.Cell m) c h = cc
   a_version n (lexeme.Str b) c h = cc
   a_version n (lexeme.Bytes b) c h = cc
+  a_version n (lexeme.Letters b) c h = cc
   a_version n (lexeme.Mark m) c h = cc
   a_version n lexeme.End c h = cc
   a_version n lexeme.Bad c h = cc
@@ -251,6 +267,7 @@ module _ (v : Version) (text rest : List ℕ) where
   other_mark due (lexeme.Cell m) c h = other_cut due (Cell m) refl c
   other_mark due (lexeme.Str b) c h = other_cut due (Str c.0) refl c.2
   other_mark due (lexeme.Bytes b) c h = other_cut due (Bytes c.0) refl c.2
+  other_mark due (lexeme.Letters b) c h = other_cut due (Letters c.0) refl c.2
   other_mark due (lexeme.Mark m) c h = other_cut due (Mark m) h c
   other_mark due lexeme.End c h = λ after b. some_octets (plain v) text (Mark due) after b c
   other_mark due lexeme.Bad c h = λ after b. c.1 (Mark due) after b

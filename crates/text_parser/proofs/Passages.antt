@@ -141,6 +141,7 @@ module _ (v : Version) (table : Table) where
   step_stays ACount t ds h = refl
   step_stays AString t ds h = refl
   step_stays SomeBytes t ds h = refl
+  step_stays SomeLetters t ds h = refl
   step_stays AUuid t ds h = refl
   step_stays (ATag arms default) t ds h = refl
   step_stays (APointer to) t ds h = refl
@@ -156,6 +157,7 @@ module _ (v : Version) (table : Table) where
   step_ends ACount ds ns cells h = refl
   step_ends AString ds ns cells h = refl
   step_ends SomeBytes ds ns cells h = refl
+  step_ends SomeLetters ds ns cells h = refl
   step_ends AUuid ds ns cells h = refl
   step_ends (ATag arms default) ds ns cells h = refl
   step_ends (APointer to) ds ns cells h = refl

@@ -9,7 +9,7 @@ use Rattle.nd_base.specs.Text.{is_word_octet, has_form, uuid_form}
 use Rattle.nd_value.specs.Misfit.{is_octet}
 use Rattle.text_grammar.specs.declared.version.Version.{Version}
 use Rattle.text_grammar.specs.declared.version.Version.TheVariants as version
-use Rattle.text_grammar.specs.Tokens.{Token, Word, Number, Cell, Str, Bytes, Uuid, Mark, Spells, Cutting, cutting, IsCut, Begins, is_uuid, is_bytes, begins_bytes, skip, is_mark, ends_run, uuid_due}
+use Rattle.text_grammar.specs.Tokens.{Token, Word, Number, Cell, Str, Bytes, Letters, Uuid, Mark, Spells, Cutting, cutting, IsCut, Begins, is_uuid, is_bytes, begins_bytes, skip, is_mark, ends_run, uuid_due}
 use Rattle.text_grammar.specs.Tokens.{has_version (pos 2), after}
 use Rattle.text_grammar.specs.Written.{Piece, token_of, is_equals, is_comma, is_run, space, spelled, tokens_text, line_text}
 use Rattle.text_grammar.specs.Settled.{has_bytes, IsSettled, is_simple}
@@ -25,6 +25,7 @@ is_string (Number z) = false
 is_string (Cell c) = false
 is_string (Str octets) = true
 is_string (Bytes octets) = true
+is_string (Letters octets) = true
 is_string (Uuid id) = false
 is_string (Mark m) = false
 
@@ -56,6 +57,7 @@ no_uuid_token (Number z) s = refl
 no_uuid_token (Cell n) s = refl
 no_uuid_token (Str octets) s = refl
 no_uuid_token (Bytes octets) s = refl
+no_uuid_token (Letters octets) s = refl
 no_uuid_token (Uuid id) s = cc
 no_uuid_token (Mark m) s = refl
 
@@ -146,6 +148,7 @@ other_ends (Number z) more h e i = cc
 other_ends (Cell c) more h e i = cc
 other_ends (Str octets) more h e i = cc
 other_ends (Bytes octets) more h e i = cc
+other_ends (Letters octets) more h e i = cc
 other_ends (Uuid id) more h e i = cc
 other_ends (Mark m) more h e i = (mark_ends m h, mark_no_quote m h)
 

@@ -27,7 +27,7 @@ use Rattle.nd_grammar.specs.LegalSide.{IsLegalSide}
 use Rattle.text_grammar.specs.declared.version.Version.{Version}
 use Rattle.text_grammar.specs.declared.version.Version.TheVariants as version
 use Rattle.text_grammar.specs.declared.TheConstants.{TEXT_LIMIT}
-use Rattle.text_grammar.specs.Tokens.{Token, Word, Number, Cell, Str, Bytes, Mark, is_bytes, is_mark}
+use Rattle.text_grammar.specs.Tokens.{Token, Word, Number, Cell, Str, Bytes, Letters, Mark, is_bytes, is_mark}
 use Rattle.text_grammar.specs.Written.{Piece, Name, Other, word, token_of, separated, enclosed, named, members, unit_in, units_in, writes_octets, list_pieces, array_counts, node_pieces}
 use Rattle.text_grammar.specs.Written.{values_pieces, value_pieces, version_number, side_word, root_name, head_lines, root_lines, cell_lines, graph_lines, graph_tokens, is_run, tokens_text}
 use Rattle.text_grammar.specs.Written.{graph_text}

@@ -5,7 +5,7 @@ use Rattle.std.proofs.Common.{ap, ap₂, sym, ◌∙◌, subst, arith, take-appe
 use Rattle.std.proofs.lemmas.Option.{same_Some}
 use Rattle.std.proofs.lemmas.Bool.{and_parts, both_ways, eqb-true, eq-eqb, cases_lt}
 use Rattle.nd_base.specs.Text.{is_letter, is_hex_digit, has_form, uuid_form}
-use Rattle.text_grammar.specs.Tokens.{Token, Word, Number, Cell, Str, Bytes, Uuid, Mark, Spells, is_uuid, is_bytes, is_mark, begins_bytes, Cutting, skip, IsQuoted, character, hex_pair, uuid_octets}
+use Rattle.text_grammar.specs.Tokens.{Token, Word, Number, Cell, Str, Bytes, Letters, Uuid, Mark, Spells, is_uuid, is_bytes, is_mark, begins_bytes, Cutting, skip, IsQuoted, character, hex_pair, uuid_octets}
 use Rattle.text_grammar.specs.Runs.{run, after_run, number_of, IsNatural}
 use Rattle.text_grammar.specs.Reads.{Lexeme, Cut, End, Bad, IsNext}
 use Rattle.text_grammar.proofs.Scanned.{word_first, natural_some}

@@ -9,7 +9,7 @@ use Rattle.std.proofs.lemmas.Bool.{and_parts, and_from, cond-true, cond-false, l
 use Rattle.std.proofs.lemmas.Bool.Decides.{nat_tests}
 use Rattle.nd_base.specs.Text.{is_word, is_letter, is_digit, is_word_octet, is_hex_digit, hex_value, has_form, uuid_form, hex_digit}
 use Rattle.nd_value.specs.Misfit.{is_octet}
-use Rattle.text_grammar.specs.Tokens.{Token, Word, Number, Cell, Str, Bytes, Uuid, Mark, Spells, Cutting, IsCut, is_uuid, is_bytes, begins_bytes, IsString, IsByteString, character, escape, hex_pair}
+use Rattle.text_grammar.specs.Tokens.{Token, Word, Number, Cell, Str, Bytes, Letters, Uuid, Mark, Spells, Cutting, IsCut, is_uuid, is_bytes, begins_bytes, IsString, IsByteString, character, escape, hex_pair}
 use Rattle.text_grammar.specs.Tokens.{is_plain, skip, is_blank, is_mark, ends_run}
 use Rattle.text_grammar.specs.Tokens as tokens
 use Rattle.text_grammar.specs.Written.{hex_octet, hex_text, uuid_text, fill, escaped, spelled, is_run}
@@ -198,6 +198,7 @@ token_first (Number (negsuc n)) rest h = refl
 token_first (Cell c) rest h = refl
 token_first (Str octets) rest h = refl
 token_first (Bytes octets) rest h = refl
+token_first (Letters octets) rest h = refl
 token_first (Uuid id) rest h = form_first (uuid_text id) rest (uuid_filled id h.0 h.1).has
 token_first (Mark mark) rest h = cond-false (is_blank mark) (skip rest) (mark ∷ rest) (mark_no_blank mark h)
 
@@ -264,6 +265,7 @@ token_bytes (Number (negsuc n)) rest h q = sym (first_no 45 (decimal (suc n) ++ 
 token_bytes (Cell c) rest h q = sym (first_no 64 (decimal c ++ rest) refl)
 token_bytes (Str octets) rest h q = sym (first_no 34 ((flat_map escaped octets ++ 34 ∷ []) ++ rest) refl)
 token_bytes (Bytes octets) rest h q = refl
+token_bytes (Letters octets) rest h q = refl
 token_bytes (Uuid id) rest h q = sym (form_no_bytes (uuid_text id) rest (uuid_filled id h.0 h.1).has)
 token_bytes (Mark mark) rest h q = sym (first_no mark rest (mark_no_x mark h))
 
