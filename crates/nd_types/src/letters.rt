@@ -14,15 +14,22 @@ fn is_letter(definition: &TypeDef) -> bool
     }
 }
 
+// Whether one of these types is a letter.
+fn any_letter(types: &[TypeDef]) -> bool
+    ensures { result ≡ is_with_letters types.now }
+{
+    for at in 0..types.len() {
+        if is_letter(&types[at]) {
+            return true;
+        }
+    }
+    false
+}
+
 /// Whether a table of types has letters, `wchar_t` of the windows language: then value texts of its interface are of version 3.
 /// Takes no memory; the time is in proportion to the table.
 pub fn has_letters(types: &Types) -> bool
     ensures { result ≡ is_with_letters types.now }
 {
-    for at in 0..types.items.len() {
-        if is_letter(&types.items[at]) {
-            return true;
-        }
-    }
-    false
+    any_letter(types.as_slice())
 }

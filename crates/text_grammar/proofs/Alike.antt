@@ -38,7 +38,7 @@ module _ (v : Version) (ds es : List Due) (named : List (ℕ × ℕ)) (cells : �
 
   pub taken_alike : (d : Due) (t : Token) (more : List Due) → taken (reading v ds named cells) d t more ≡ taken (reading v es named cells) d t more
   taken_alike (This p) t more = if_alike (is_this p t) more (why_not p t)
-  taken_alike AVersion (Number z) more = version_alike (version_of z) more
+  taken_alike (AVersion letters) (Number z) more = version_alike (version_of letters z) more
   taken_alike ACount (Number z) more = if_alike (is_count_token z) more reason.Expected
   taken_alike (APointer to) (Word octets) more = if_alike (bytes_eq octets (codes "null")) more reason.Expected
   taken_alike ACellLine (Cell c) more = begun_alike (eqb c (cells + 1)) (named_type named c) more

@@ -184,8 +184,8 @@ module _ (w : Setting) (known : KnowsTypes w.table) (roots : list_all (λ (r : R
       let d5 : List Due = This (Name (side_word w.side)) ∷ last in
       let d4 : List Due = This (Name w.op.name) ∷ d5 in
       let d3 : List Due = This (word (codes "op")) ∷ d4 in
-      let a = this_taken w.table y ends version.One (AVersion ∷ d3) [] 0 (word (codes "values")) ts e in
-      let b = version_taken w.table y ends version.One d3 [] 0 a.0 a.2 in
+      let a = this_taken w.table y ends version.One (AVersion (has_letters w.table) ∷ d3) [] 0 (word (codes "values")) ts e in
+      let b = version_taken w.table y ends version.One d3 [] 0 (has_letters w.table) a.0 a.2 in
       let v : Version = b.0 in
       let c = this_taken w.table y ends v d4 [] 0 (word (codes "op")) b.1 b.3 in
       let d = this_taken w.table y ends v d5 [] 0 (Name w.op.name) c.0 c.2 in

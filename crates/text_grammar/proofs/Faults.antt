@@ -79,7 +79,7 @@ module _ (v : Version) (nb : List (ℕ × ℕ)) (k : ℕ) (table : Table) where
   plain_why due [] t why h e = cc
   plain_why due (This (Name n) ∷ ds) t why h e = cc
   plain_why due (This (Other u) ∷ ds) t why h e = if_why (is_this (Other u) t) due ds why reason.Expected e
-  plain_why due (AVersion ∷ ds) (Number z) why h e = version_why (version_of z) due ds why e
+  plain_why due (AVersion letters ∷ ds) (Number z) why h e = version_why (version_of letters z) due ds why e
   plain_why due (ACount ∷ ds) (Number z) why h e = if_why (is_count_token z) due ds why reason.Expected e
   plain_why due (APointer to ∷ ds) (Word octets) why h e = if_why (bytes_eq octets (codes "null")) due ds why reason.Expected e
   plain_why due (ACellLine ∷ ds) t why h e = cc

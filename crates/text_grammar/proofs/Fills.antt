@@ -34,7 +34,7 @@ is_fixed p = false
 -- the dues that come in a text, except a version and the lines of cells
 abbrev pub is_good : Table → Due → Bool
 is_good table (This p) = is_fixed p
-is_good table AVersion = false
+is_good table (AVersion letters) = false
 is_good table ANumber = true
 is_good table ACount = true
 is_good table AString = true
@@ -93,6 +93,9 @@ module _ (table : Table) (v : Version) where
   fill_bytes : Filled (SomeBytes ∷ [])
   fill_bytes = record { tokens = Bytes [] ∷ []; real = refl; reads = λ more nb k ts. refl }
 
+  fill_letters : Filled (SomeLetters ∷ [])
+  fill_letters = record { tokens = Letters [] ∷ []; real = refl; reads = λ more nb k ts. refl }
+
   fill_uuid : Filled (AUuid ∷ [])
   fill_uuid = record {
     tokens = Uuid (0 ∷ 0 ∷ 0 ∷ 0 ∷ 0 ∷ 0 ∷ 0 ∷ 0 ∷ 0 ∷ 0 ∷ 0 ∷ 0 ∷ 0 ∷ 0 ∷ 0 ∷ 0 ∷ []) ∷ [];
@@ -117,9 +120,10 @@ module _ (table : Table) (v : Version) where
     pub reads : (more : List Due) (nb : List (ℕ × ℕ)) (k : ℕ) (ts : List Token)
         → all_read table (reading v (ds ++ more) nb k) (first ∷ (others ++ ts)) ≡ all_read table (reading v more nb k) ts
 
-  list_begun : (b : Bool) (t : ℕ) → Begun (list_dues b t)
-  list_begun true t = record { first = Bytes []; others = []; real = refl; reads = λ more nb k ts. refl }
-  list_begun false t = record { first = Mark 91; others = Mark 93 ∷ []; real = refl; reads = λ more nb k ts. refl }
+  list_begun : (form : ListForm) (t : ℕ) → Begun (list_dues form t)
+  list_begun AsBytes t = record { first = Bytes []; others = []; real = refl; reads = λ more nb k ts. refl }
+  list_begun AsLetters t = record { first = Letters []; others = []; real = refl; reads = λ more nb k ts. refl }
+  list_begun InBrackets t = record { first = Mark 91; others = Mark 93 ∷ []; real = refl; reads = λ more nb k ts. refl }
 
   counts_begun : (bound : Option ℕ) (varying : Bool) (ds : List Due) → Begun ds → Begun (count_dues bound varying ++ ds)
   counts_begun bound false ds b = b
@@ -235,7 +239,7 @@ module _ (table : Table) (v : Version) where
 
     pub fill_due : (n : ℕ) → ((t : ℕ) → nests n table t ≡ true) → (d : Due) → is_good table d ≡ true → Filled (d ∷ [])
     fill_due n shallow (This p) h = fill_this p h
-    fill_due n shallow AVersion h = cc
+    fill_due n shallow (AVersion letters) h = cc
     fill_due n shallow ANumber h = fill_number
     fill_due n shallow ACount h = fill_count
     fill_due n shallow AString h = fill_string

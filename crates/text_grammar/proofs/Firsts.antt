@@ -5,7 +5,7 @@ use Rattle.std.specs.Fmt.{decimal, signed_decimal}
 use Rattle.std.proofs.lemmas.Bool.{cond-true, and_parts, and_from, both_ways}
 use Rattle.std.proofs.lemmas.Bool.Decides.{nat_tests}
 use Rattle.nd_base.specs.Text.{is_word, is_word_octet, is_letter, is_digit, has_form, uuid_form}
-use Rattle.text_grammar.specs.Tokens.{Token, Word, Number, Cell, Str, Bytes, Letters, Uuid, Mark, Spells, is_uuid, is_bytes, is_mark, ends_run, IsString, IsByteString, character, hex_pair}
+use Rattle.text_grammar.specs.Tokens.{Token, Word, Number, Cell, Str, Bytes, Letters, Uuid, Mark, Spells, is_uuid, is_bytes, is_mark, ends_run, IsString, IsByteString, IsLetterString, is_letters, character, hex_pair, letter}
 use Rattle.text_grammar.proofs.Classes.{letter_word}
 use Rattle.text_grammar.proofs.Runs.{one_run}
 use Rattle.text_grammar.proofs.Numerals.{written, decimal_digits, digits_are_words, one_decimal}

@@ -34,7 +34,7 @@ use Rattle.text_grammar.proofs.Fills.{is_fixed, is_good, fill_due}
 
 -- a due that comes before the lines of cells
 abbrev pub may_come : Table → Due → Bool
-may_come table AVersion = true
+may_come table (AVersion letters) = true
 may_come table d = is_good table d
 
 abbrev fine : Reading → Result Reading TextReason
@@ -155,7 +155,7 @@ module _ (table : Table) (known : KnowsTypes table) where
         good = and_from (is_in_table table t) (is_in_table table t && list_all (may_come table) fs) p.0 h;
       }
     at_token tok (This q ∷ fs) h = record { front = This q ∷ fs; is = refl; good = h }
-    at_token tok (AVersion ∷ fs) h = record { front = AVersion ∷ fs; is = refl; good = h }
+    at_token tok (AVersion letters ∷ fs) h = record { front = AVersion letters ∷ fs; is = refl; good = h }
     at_token tok (ANumber ∷ fs) h = record { front = ANumber ∷ fs; is = refl; good = h }
     at_token tok (ACount ∷ fs) h = record { front = ACount ∷ fs; is = refl; good = h }
     at_token tok (AString ∷ fs) h = record { front = AString ∷ fs; is = refl; good = h }
@@ -189,7 +189,7 @@ module _ (table : Table) (known : KnowsTypes table) where
       took (Cell c) [] h y e = goes_line (eqb c (k + 1)) (named_type nb c) c refl y e
       took tok [] h y e = cc
       took tok (This q ∷ fs) h y e = goes_if (is_this q tok) fs (why_not q tok) y (and_parts (is_fixed q) (list_all (may_come table) fs) h).1 e
-      took (Number z) (AVersion ∷ fs) h y e = goes_version (version_of z) fs y h e
+      took (Number z) (AVersion letters ∷ fs) h y e = goes_version (version_of letters z) fs y h e
       took (Number z) (ANumber ∷ fs) h y e = goes fs v y h e
       took (Number z) (ACount ∷ fs) h y e = goes_if (is_count_token z) fs reason.Expected y h e
       took (Str octets) (AString ∷ fs) h y e = goes fs v y h e
@@ -282,7 +282,7 @@ module _ (table : Table) (known : KnowsTypes table) where
 
 pub sound_start : (w : Setting) → KnowsTypes w.table → list_all (λ (r : Root). is_in_table w.table r.of) (root_list w) ≡ true → Sound w.table (nothing_read w)
 sound_start w known roots = record {
-  front = This (word (codes "values")) ∷ AVersion ∷ This (word (codes "op")) ∷ This (Name w.op.name) ∷ This (Name (side_word w.side)) ∷ root_dues w.op.params (root_list w);
+  front = This (word (codes "values")) ∷ AVersion (has_letters w.table) ∷ This (word (codes "op")) ∷ This (Name w.op.name) ∷ This (Name (side_word w.side)) ∷ root_dues w.op.params (root_list w);
   is = refl;
   good = roots_good w.table known w.op.params (root_list w) roots;
   names = refl;

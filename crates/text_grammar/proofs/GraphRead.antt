@@ -132,6 +132,7 @@ module _ (w : Setting) where
   head_read : (v : Version) (ts : List Token) → all_read w.table (nothing_read w) (lines_tokens (head_lines v w) ++ ts) ≡ all_read w.table (reading v after_head [] 0) ts
   head_read version.One ts = names_read version.One ts
   head_read version.Two ts = names_read version.Two ts
+  head_read version.Three ts = names_read version.Three ts
 
   abbrev pub all_noted : Graph → List (ℕ × ℕ)
   all_noted g = cells_noted w.table g.cells (roots_noted w.table (root_list w) g.roots [])

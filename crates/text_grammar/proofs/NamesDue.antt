@@ -112,6 +112,7 @@ module _ (w : Setting) where
   head_read : (v : Version) (ps : List Piece) → all_pieces w.table (nothing_read w) (flat (head_lines v w) ++ ps) ≡ all_pieces w.table (reading v after_head [] 0) ps
   head_read version.One ps = names_read version.One ps
   head_read version.Two ps = names_read version.Two ps
+  head_read version.Three ps = names_read version.Three ps
 
   -- a graph's pieces are read to the end
   graph_reads : (v : Version) (g : Graph) → IsReadable v w g → (z : Reading) × (all_pieces w.table (nothing_read w) (graph_pieces v w g) ≡ Ok z)

@@ -290,9 +290,10 @@ module _ (v : Version) (table : Table) where
     opens = subst (λ (x : Option TypeDef). Opens ((node_pieces v table x l ks (pieces_of (child_types x l ks) ks)))) (sym e) o;
   }
 
-  list_opens : (b : Bool) (ks : Trees) (values : List (List Piece)) → Opens ((list_pieces b ks values))
-  list_opens true ks values = record { first = Other (Bytes (units_in ks)); others = []; is = refl; opens = refl }
-  list_opens false ks values = record { first = Other (Mark 91); others = separated values ++ Other (Mark 93) ∷ []; is = refl; opens = refl }
+  list_opens : (form : ListForm) (ks : Trees) (values : List (List Piece)) → Opens ((list_pieces form ks values))
+  list_opens AsBytes ks values = record { first = Other (Bytes (units_in ks)); others = []; is = refl; opens = refl }
+  list_opens AsLetters ks values = record { first = Other (Letters (units_in ks)); others = []; is = refl; opens = refl }
+  list_opens InBrackets ks values = record { first = Other (Mark 91); others = separated values ++ Other (Mark 93) ∷ []; is = refl; opens = refl }
 
   array_opens : (bound : Option ℕ) (varying : Bool) (max offset : ℕ) (ps : List Piece) → Opens (ps) → Opens ((array_counts bound varying max offset ++ ps))
   array_opens bound false max offset ps o = o

@@ -68,6 +68,11 @@ same_version version.One version.One e = refl
 same_version version.One version.Two e = cc
 same_version version.Two version.One e = cc
 same_version version.Two version.Two e = refl
+same_version version.Three version.Three e = refl
+same_version version.One version.Three e = cc
+same_version version.Two version.Three e = cc
+same_version version.Three version.One e = cc
+same_version version.Three version.Two e = cc
 
 module _ (w : Setting) where
   graph_one : (v : Version) (g h : Graph) → IsReadable v w g → IsReadable v w h → graph_tokens v w g ≡ graph_tokens v w h → g ≡ h

@@ -6,7 +6,7 @@ use Rattle.nd_value.specs.declared.value.Graph.{Graph}
 use Rattle.nd_value.specs.Setting.{Setting}
 use Rattle.text_grammar.specs.declared.fault.TextReason.{TextReason}
 use Rattle.text_grammar.specs.declared.fault.TextReason.TheVariants as reason
-use Rattle.text_grammar.specs.Tokens.{Token, Word, Number, Cell, Str, Bytes, Letters, Uuid, Mark, Spells, is_uuid, is_bytes, IsCut, Begins, skip, Cutting, cutting, after, uuid_octets}
+use Rattle.text_grammar.specs.Tokens.{Token, Word, Number, Cell, Str, Bytes, Letters, Uuid, Mark, Spells, is_uuid, is_bytes, is_letters, IsCut, Begins, skip, Cutting, cutting, after, uuid_octets}
 use Rattle.text_grammar.specs.Written.{graph_tokens}
 use Rattle.text_grammar.specs.Reads.{ReadsAs, Lexeme, Cut, End, Bad, IsNext, CanGoOn, GoesOn, IsReason, IsFirstFault, IsTextFault}
 use Rattle.text_grammar.proofs.Runs.{skip_less}
@@ -41,22 +41,23 @@ one_uuid v w text rest end s r =
 -- ## One token, and one lexeme
 
 pub one_cut : (how : Cutting) (text : List ℕ) (t u : Token) (rest end : List ℕ) → IsCut how text t rest → IsCut how text u end → (t ≡ u) × (rest ≡ end)
-one_cut how text t u rest end a b = by t u a.spelled b.spelled (a.uuid ∙ sym b.uuid) (a.bytes ∙ sym b.bytes) where
-  by : (t u : Token) → Spells (skip text) t rest → Spells (skip text) u end → is_uuid t ≡ is_uuid u → is_bytes t ≡ is_bytes u → (t ≡ u) × (rest ≡ end)
-  by (Uuid v) (Uuid w) s r e d = one_uuid v w (skip text) rest end s r
-  by (Uuid v) (Word w) s r e d = cc
-  by (Uuid v) (Number w) s r e d = cc
-  by (Uuid v) (Cell w) s r e d = cc
-  by (Uuid v) (Str w) s r e d = cc
-  by (Uuid v) (Bytes w) s r e d = cc
-  by (Uuid v) (Letters w) s r e d = cc
-  by (Uuid v) (Mark w) s r e d = cc
-  by (Word v) u s r e d = one_first (Word v) u (skip text) rest end refl (sym e) d s r
-  by (Number v) u s r e d = one_first (Number v) u (skip text) rest end refl (sym e) d s r
-  by (Cell v) u s r e d = one_first (Cell v) u (skip text) rest end refl (sym e) d s r
-  by (Str v) u s r e d = one_first (Str v) u (skip text) rest end refl (sym e) d s r
-  by (Bytes v) u s r e d = one_first (Bytes v) u (skip text) rest end refl (sym e) d s r
-  by (Mark v) u s r e d = one_first (Mark v) u (skip text) rest end refl (sym e) d s r
+one_cut how text t u rest end a b = by t u a.spelled b.spelled (a.uuid ∙ sym b.uuid) (a.bytes ∙ sym b.bytes) (a.letters ∙ sym b.letters) where
+  by : (t u : Token) → Spells (skip text) t rest → Spells (skip text) u end → is_uuid t ≡ is_uuid u → is_bytes t ≡ is_bytes u → is_letters t ≡ is_letters u → (t ≡ u) × (rest ≡ end)
+  by (Uuid v) (Uuid w) s r e d g = one_uuid v w (skip text) rest end s r
+  by (Uuid v) (Word w) s r e d g = cc
+  by (Uuid v) (Number w) s r e d g = cc
+  by (Uuid v) (Cell w) s r e d g = cc
+  by (Uuid v) (Str w) s r e d g = cc
+  by (Uuid v) (Bytes w) s r e d g = cc
+  by (Uuid v) (Letters w) s r e d g = cc
+  by (Uuid v) (Mark w) s r e d g = cc
+  by (Word v) u s r e d g = one_first (Word v) u (skip text) rest end refl (sym e) d g s r
+  by (Number v) u s r e d g = one_first (Number v) u (skip text) rest end refl (sym e) d g s r
+  by (Cell v) u s r e d g = one_first (Cell v) u (skip text) rest end refl (sym e) d g s r
+  by (Str v) u s r e d g = one_first (Str v) u (skip text) rest end refl (sym e) d g s r
+  by (Bytes v) u s r e d g = one_first (Bytes v) u (skip text) rest end refl (sym e) d g s r
+  by (Letters v) u s r e d g = one_first (Letters v) u (skip text) rest end refl (sym e) d g s r
+  by (Mark v) u s r e d g = one_first (Mark v) u (skip text) rest end refl (sym e) d g s r
 
 pub cut_less : (how : Cutting) (text : List ℕ) (t : Token) (rest : List ℕ) → IsCut how text t rest → length rest < length text
 cut_less how text t rest c = omega (arith, spells_less t (skip text) rest c.spelled, skip_less text)

@@ -3,7 +3,7 @@
 use Rattle.std.proofs.Common.{◌≡◌, ℕ, ◌+◌, ◌*◌, ◌<◌, ◌≤◌, Bool, true, false, ◌&&◌, ◌||◌, cond, eqb, List, [], ◌∷◌, length, Option, Some, None, refl, sym, ap, ap₂, subst, ◌∙◌, arith}
 use Rattle.std.proofs.lemmas.Option.{same_Some}
 use Rattle.nd_base.specs.Text.{hex_value, is_hex_digit}
-use Rattle.text_grammar.specs.Tokens.{character, escape, hex_pair, is_plain, IsQuoted}
+use Rattle.text_grammar.specs.Tokens.{character, escape, hex_pair, is_plain, IsQuoted, hex_quad, letter, letter_escape}
 
 abbrev pub First : Type 0
 First = List ℕ → Option (ℕ × List ℕ)
@@ -30,6 +30,39 @@ pair_less (h ∷ l ∷ cs) b after e = by (is_hex_digit h && is_hex_digit l) e w
   by : (t : Bool) → cond {A = Option (ℕ × List ℕ)} t (Some (16 * hex_value h + hex_value l, cs)) None ≡ Some (b, after) → length after < length (h ∷ l ∷ cs)
   by true e = let f : cs ≡ after = ap (λ x. x.1) (same_Some _ _ e) in omega (arith, ap length f)
   by false e = cc
+
+pub letter_quote : TakesNoQuote letter
+letter_quote after x e = cc
+
+pub quad_less : TakesSome hex_quad
+quad_less [] b after e = cc
+quad_less (p ∷ []) b after e = cc
+quad_less (p ∷ q ∷ []) b after e = cc
+quad_less (p ∷ q ∷ r ∷ []) b after e = cc
+quad_less (p ∷ q ∷ r ∷ s ∷ cs) b after e = by ((is_hex_digit p && is_hex_digit q) && (is_hex_digit r && is_hex_digit s)) e where
+  by : (t : Bool) → cond {A = Option (ℕ × List ℕ)} t (Some (4096 * hex_value p + 256 * hex_value q + 16 * hex_value r + hex_value s, cs)) None ≡ Some (b, after)
+      → length after < length (p ∷ q ∷ r ∷ s ∷ cs)
+  by true e = let f : cs ≡ after = ap (λ x. x.1) (same_Some _ _ e) in omega (arith, ap length f)
+  by false e = cc
+
+pub letter_less : TakesSome letter
+letter_less [] b after e = cc
+letter_less (c ∷ cs) b after e = by (eqb c 92) e where
+  escaped : (cs : List ℕ) → letter_escape cs ≡ Some (b, after) → length after ≤ length cs
+  escaped [] e = cc
+  escaped (d ∷ ds) e = by_mark (eqb d 34 || eqb d 92) (eqb d 117) e where
+    by_mark : (t u : Bool) → cond {A = Option (ℕ × List ℕ)} t (Some (d, ds)) (cond u (hex_quad ds) None) ≡ Some (b, after) → length after ≤ length (d ∷ ds)
+    by_mark true u e = let f : ds ≡ after = ap (λ x. x.1) (same_Some _ _ e) in omega (arith, ap length f)
+    by_mark false true e = omega (arith, quad_less ds b after e)
+    by_mark false false e = cc
+
+  plain : (t : Bool) → cond {A = Option (ℕ × List ℕ)} t (Some (c, cs)) None ≡ Some (b, after) → length after < length (c ∷ cs)
+  plain true e = let f : cs ≡ after = ap (λ x. x.1) (same_Some _ _ e) in omega (arith, ap length f)
+  plain false e = cc
+
+  by : (t : Bool) → cond {A = Option (ℕ × List ℕ)} t (letter_escape cs) (cond (is_plain c) (Some (c, cs)) None) ≡ Some (b, after) → length after < length (c ∷ cs)
+  by true e = omega (arith, escaped cs e)
+  by false e = plain (is_plain c) e
 
 pub character_less : TakesSome character
 character_less [] b after e = cc

@@ -8,7 +8,8 @@ use Rattle.std.proofs.lemmas.Bool.Decides.{nat_tests}
 use Rattle.std.proofs.lemmas.Option.{same_Some}
 use Rattle.nd_base.specs.Text.{is_digit, is_hex_digit, hex_value, has_form, uuid_form}
 use Rattle.nd_value.specs.Misfit.{is_octet, is_count}
-use Rattle.text_grammar.specs.Tokens.{Token, Word, Number, Cell, Str, Bytes, Letters, Uuid, Mark, Spells, Begins, skip, character, escape, hex_pair, is_plain, IsQuoted, hex_octets, uuid_octets}
+use Rattle.text_grammar.specs.Tokens.{Token, Word, Number, Cell, Str, Bytes, Letters, Uuid, Mark, Spells, Begins, skip, character, escape, hex_pair, is_plain, IsQuoted, hex_octets, uuid_octets, hex_quad, letter, letter_escape}
+use Rattle.text_grammar.specs.Reads.{is_letter_unit}
 use Rattle.text_grammar.proofs.Classes.{digit_range, is_no_hyphen, digit_no_hyphen}
 use Rattle.text_grammar.specs.Real.{is_real}
 use Rattle.text_grammar.proofs.Quoted.{First}
@@ -69,6 +70,59 @@ character_is_octet (c ∷ cs) b after e = by (eqb c 92) e where
   plain false t e = cc
 
   by : (t : Bool) → cond {A = Option (ℕ × List ℕ)} t (escape cs) (cond (is_plain c) (Some (c, cs)) None) ≡ Some (b, after) → is_octet b ≡ true
+  by true e = escaped cs e
+  by false e = plain (is_plain c) refl e
+
+quoted_units : (is_unit : ℕ → Bool) (first : First) → ((text : List ℕ) (b : ℕ) (after : List ℕ) → first text ≡ Some (b, after) → is_unit b ≡ true)
+    → (text units rest : List ℕ) → IsQuoted first text units rest → list_all is_unit units ≡ true
+quoted_units is_unit first takes text [] rest s = refl
+quoted_units is_unit first takes text (b ∷ bs) rest s = and_from (is_unit b) (list_all is_unit bs) (takes text b s.0 s.1) (quoted_units is_unit first takes s.0 bs rest s.2)
+
+abbrev TakesUnits : First → Type 0
+TakesUnits first = (text : List ℕ) (b : ℕ) (after : List ℕ) → first text ≡ Some (b, after) → is_letter_unit b ≡ true
+
+quad_unit : (p q r s : ℕ) → is_hex_digit p ≡ true → is_hex_digit q ≡ true → is_hex_digit r ≡ true → is_hex_digit s ≡ true
+    → is_letter_unit (4096 * hex_value p + 256 * hex_value q + 16 * hex_value r + hex_value s) ≡ true
+quad_unit p q r s a b c d =
+    lt-ltb (4096 * hex_value p + 256 * hex_value q + 16 * hex_value r + hex_value s) 65536 (omega (arith, hex_small p a, hex_small q b, hex_small r c, hex_small s d))
+
+quad_is_unit : TakesUnits hex_quad
+quad_is_unit [] b after e = cc
+quad_is_unit (p ∷ []) b after e = cc
+quad_is_unit (p ∷ q ∷ []) b after e = cc
+quad_is_unit (p ∷ q ∷ r ∷ []) b after e = cc
+quad_is_unit (p ∷ q ∷ r ∷ s ∷ cs) b after e = by ((is_hex_digit p && is_hex_digit q) && (is_hex_digit r && is_hex_digit s)) refl e where
+  by : (t : Bool) → ((is_hex_digit p && is_hex_digit q) && (is_hex_digit r && is_hex_digit s)) ≡ t
+      → cond {A = Option (ℕ × List ℕ)} t (Some (4096 * hex_value p + 256 * hex_value q + 16 * hex_value r + hex_value s, cs)) None ≡ Some (b, after) → is_letter_unit b ≡ true
+  by true t e =
+      let h = and_parts (is_hex_digit p && is_hex_digit q) (is_hex_digit r && is_hex_digit s) t in
+      let k = and_parts (is_hex_digit p) (is_hex_digit q) h.0 in
+      let l = and_parts (is_hex_digit r) (is_hex_digit s) h.1 in
+      let f : 4096 * hex_value p + 256 * hex_value q + 16 * hex_value r + hex_value s ≡ b = ap (λ x. x.0) (same_Some _ _ e) in
+      subst (λ x. is_letter_unit x ≡ true) f (quad_unit p q r s k.0 k.1 l.0 l.1)
+  by false t e = cc
+
+letter_is_unit : TakesUnits letter
+letter_is_unit [] b after e = cc
+letter_is_unit (c ∷ cs) b after e = by (eqb c 92) e where
+  low : (d : ℕ) → d < 256 → d ≡ b → is_letter_unit b ≡ true
+  low d small f = subst (λ x. is_letter_unit x ≡ true) f (lt-ltb d 65536 (omega (arith, small)))
+
+  escaped : (cs : List ℕ) → letter_escape cs ≡ Some (b, after) → is_letter_unit b ≡ true
+  escaped [] e = cc
+  escaped (d ∷ ds) e = by_mark (eqb d 34) refl (eqb d 92) refl (eqb d 117) e where
+    by_mark : (s : Bool) → eqb d 34 ≡ s → (t : Bool) → eqb d 92 ≡ t → (u : Bool) → cond {A = Option (ℕ × List ℕ)} (s || t) (Some (d, ds)) (cond u (hex_quad ds) None) ≡ Some (b, after)
+        → is_letter_unit b ≡ true
+    by_mark true s t k u e = low d (omega (arith, eqb-true d 34 s)) (ap (λ x. x.0) (same_Some _ _ e))
+    by_mark false s true k u e = low d (omega (arith, eqb-true d 92 k)) (ap (λ x. x.0) (same_Some _ _ e))
+    by_mark false s false k true e = quad_is_unit ds b after e
+    by_mark false s false k false e = cc
+
+  plain : (t : Bool) → is_plain c ≡ t → cond {A = Option (ℕ × List ℕ)} t (Some (c, cs)) None ≡ Some (b, after) → is_letter_unit b ≡ true
+  plain true h e = low c (plain_low c h) (ap (λ x. x.0) (same_Some _ _ e))
+  plain false h e = cc
+
+  by : (t : Bool) → cond {A = Option (ℕ × List ℕ)} t (letter_escape cs) (cond (is_plain c) (Some (c, cs)) None) ≡ Some (b, after) → is_letter_unit b ≡ true
   by true e = escaped cs e
   by false e = plain (is_plain c) refl e
 

@@ -5,9 +5,9 @@ use Rattle.std.specs.Prelude.{pos}
 use Rattle.std.proofs.lemmas.Bool.{and_left, eqb-true, not-true}
 use Rattle.text_grammar.specs.declared.version.Version.{Version}
 use Rattle.text_grammar.specs.declared.version.Version.TheVariants as version
-use Rattle.text_grammar.specs.Tokens.{Token, Word, Number, Cell, Str, Bytes, Letters, Uuid, Mark, cutting, uuid_due, has_version (pos 2)}
-use Rattle.text_grammar.specs.Written.{version_number, is_comma}
-use Rattle.text_grammar.specs.Settled.{has_bytes, IsCalm, has_two, IsSettled, is_simple}
+use Rattle.text_grammar.specs.Tokens.{Token, Word, Number, Cell, Str, Bytes, Letters, Uuid, Mark, Cutting, cutting, uuid_due, has_version}
+use Rattle.text_grammar.specs.Written.{version_number, is_comma, has_bytes, has_letter_lists}
+use Rattle.text_grammar.specs.Settled.{IsCalm, has_two, IsSettled, is_simple}
 
 -- ## Where a UUID is due
 
@@ -17,6 +17,7 @@ no_uuid (Mark c) (Number z ∷ Mark m ∷ Number y ∷ before) h = refl
 no_uuid (Mark c) (Number z ∷ Mark m ∷ Cell y ∷ before) h = refl
 no_uuid (Mark c) (Number z ∷ Mark m ∷ Str y ∷ before) h = refl
 no_uuid (Mark c) (Number z ∷ Mark m ∷ Bytes y ∷ before) h = refl
+no_uuid (Mark c) (Number z ∷ Mark m ∷ Letters y ∷ before) h = refl
 no_uuid (Mark c) (Number z ∷ Mark m ∷ Uuid y ∷ before) h = refl
 no_uuid (Mark c) (Number z ∷ Mark m ∷ Mark y ∷ before) h = refl
 no_uuid (Mark c) (Number z ∷ Mark m ∷ []) h = refl
@@ -25,12 +26,14 @@ no_uuid (Mark c) (Number z ∷ Number m ∷ before) h = refl
 no_uuid (Mark c) (Number z ∷ Cell m ∷ before) h = refl
 no_uuid (Mark c) (Number z ∷ Str m ∷ before) h = refl
 no_uuid (Mark c) (Number z ∷ Bytes m ∷ before) h = refl
+no_uuid (Mark c) (Number z ∷ Letters m ∷ before) h = refl
 no_uuid (Mark c) (Number z ∷ Uuid m ∷ before) h = refl
 no_uuid (Mark c) (Number z ∷ []) h = refl
 no_uuid (Mark c) (Word m ∷ before) h = refl
 no_uuid (Mark c) (Cell m ∷ before) h = refl
 no_uuid (Mark c) (Str m ∷ before) h = refl
 no_uuid (Mark c) (Bytes m ∷ before) h = refl
+no_uuid (Mark c) (Letters m ∷ before) h = refl
 no_uuid (Mark c) (Uuid m ∷ before) h = refl
 no_uuid (Mark c) (Mark m ∷ before) h = refl
 no_uuid (Mark c) [] h = refl
@@ -54,6 +57,7 @@ mark_number m z (Number y ∷ before) e = refl
 mark_number m z (Cell y ∷ before) e = refl
 mark_number m z (Str y ∷ before) e = refl
 mark_number m z (Bytes y ∷ before) e = refl
+mark_number m z (Letters y ∷ before) e = refl
 mark_number m z (Uuid y ∷ before) e = refl
 mark_number m z (Mark y ∷ before) e = refl
 mark_number m z [] e = refl
@@ -64,6 +68,7 @@ calm_next (Number y) before s c = record { now = refl; comma = c.number y; numbe
 calm_next (Cell n) before s c = record { now = refl; comma = refl; number = λ z. refl }
 calm_next (Str octets) before s c = record { now = refl; comma = refl; number = λ z. refl }
 calm_next (Bytes octets) before s c = record { now = refl; comma = refl; number = λ z. refl }
+calm_next (Letters octets) before s c = record { now = refl; comma = refl; number = λ z. refl }
 calm_next (Uuid id) before s c = cc
 calm_next (Mark m) before s c = record { now = mark_now m before c; comma = refl; number = λ z. mark_number m z before (not-true (eqb m 40) s) }
 
@@ -74,28 +79,34 @@ calm_context id before = record { now = refl; comma = refl; number = λ z. refl 
 -- ## The version
 
 -- after two tokens the version is known
-pub version_stays : (t : Token) (before : List Token) → has_two before ≡ true → has_version (pos 2) (t ∷ before) ≡ has_version (pos 2) before
-version_stays t [] h = cc
-version_stays t (a ∷ []) h = cc
-version_stays t (a ∷ b ∷ before) h = by t a where
+pub version_stays : (n : ℤ) (t : Token) (before : List Token) → has_two before ≡ true → has_version n (t ∷ before) ≡ has_version n before
+version_stays n t [] h = cc
+version_stays n t (a ∷ []) h = cc
+version_stays n t (a ∷ b ∷ before) h = by t a where
   same : (c : Bool) → (c || false) ≡ c
   same true = refl
   same false = refl
 
-  by : (t a : Token) → has_version (pos 2) (t ∷ a ∷ b ∷ before) ≡ has_version (pos 2) (a ∷ b ∷ before)
-  by (Number z) (Word x) = same (has_version (pos 2) (Word x ∷ b ∷ before))
-  by (Number z) (Number x) = same (has_version (pos 2) (Number x ∷ b ∷ before))
-  by (Number z) (Cell x) = same (has_version (pos 2) (Cell x ∷ b ∷ before))
-  by (Number z) (Str x) = same (has_version (pos 2) (Str x ∷ b ∷ before))
-  by (Number z) (Bytes x) = same (has_version (pos 2) (Bytes x ∷ b ∷ before))
-  by (Number z) (Uuid x) = same (has_version (pos 2) (Uuid x ∷ b ∷ before))
-  by (Number z) (Mark x) = same (has_version (pos 2) (Mark x ∷ b ∷ before))
-  by (Word z) a = same (has_version (pos 2) (a ∷ b ∷ before))
-  by (Cell z) a = same (has_version (pos 2) (a ∷ b ∷ before))
-  by (Str z) a = same (has_version (pos 2) (a ∷ b ∷ before))
-  by (Bytes z) a = same (has_version (pos 2) (a ∷ b ∷ before))
-  by (Uuid z) a = same (has_version (pos 2) (a ∷ b ∷ before))
-  by (Mark z) a = same (has_version (pos 2) (a ∷ b ∷ before))
+  by : (t a : Token) → has_version n (t ∷ a ∷ b ∷ before) ≡ has_version n (a ∷ b ∷ before)
+  by (Number z) (Word x) = same (has_version n (Word x ∷ b ∷ before))
+  by (Number z) (Number x) = same (has_version n (Number x ∷ b ∷ before))
+  by (Number z) (Cell x) = same (has_version n (Cell x ∷ b ∷ before))
+  by (Number z) (Str x) = same (has_version n (Str x ∷ b ∷ before))
+  by (Number z) (Bytes x) = same (has_version n (Bytes x ∷ b ∷ before))
+  by (Number z) (Letters x) = same (has_version n (Letters x ∷ b ∷ before))
+  by (Number z) (Uuid x) = same (has_version n (Uuid x ∷ b ∷ before))
+  by (Number z) (Mark x) = same (has_version n (Mark x ∷ b ∷ before))
+  by (Word z) a = same (has_version n (a ∷ b ∷ before))
+  by (Cell z) a = same (has_version n (a ∷ b ∷ before))
+  by (Str z) a = same (has_version n (a ∷ b ∷ before))
+  by (Bytes z) a = same (has_version n (a ∷ b ∷ before))
+  by (Letters z) a = same (has_version n (a ∷ b ∷ before))
+  by (Uuid z) a = same (has_version n (a ∷ b ∷ before))
+  by (Mark z) a = same (has_version n (a ∷ b ∷ before))
+
+-- so what it says of bytes and letters stays
+pub bytes_stay : (t : Token) (before : List Token) → has_two before ≡ true → (cutting (t ∷ before)).bytes ≡ (cutting before).bytes
+bytes_stay t before h = ap₂ (λ b c. b || c) (version_stays (pos 2) t before h) (version_stays (pos 3) t before h)
 
 two_more : (t : Token) (before : List Token) → has_two before ≡ true → has_two (t ∷ before) ≡ true
 two_more t [] h = cc
@@ -103,31 +114,44 @@ two_more t (u ∷ before) h = refl
 
 -- ## Settled
 
-pub settled_cutting : (v : Version) (before : List Token) → IsSettled v before → cutting before ≡ record { bytes = has_bytes v; uuid = false }
-settled_cutting v before s = ap₂ (λ b u. record { bytes = b; uuid = u }) s.version s.calm.now
+-- what a version says, and whether a UUID is due
+abbrev pub how : Version → Bool → Cutting
+how v uuid = record { bytes = has_bytes v; letters = has_letter_lists v; uuid = uuid }
+
+pub cut_is : (v : Version) (before : List Token) (uuid : Bool) → (cutting before).bytes ≡ has_bytes v → (cutting before).letters ≡ has_letter_lists v → uuid_due before ≡ uuid
+    → cutting before ≡ how v uuid
+cut_is v before uuid b l u =
+    ap (λ x. record { bytes = x; letters = (cutting before).letters; uuid = uuid_due before }) b
+    ∙ ap₂ (λ x y. record { bytes = has_bytes v; letters = x; uuid = y }) l u
+
+pub settled_cutting : (v : Version) (before : List Token) → IsSettled v before → cutting before ≡ how v false
+settled_cutting v before s = cut_is v before false s.bytes s.letters s.calm.now
 
 pub settled_next : (v : Version) (t : Token) (before : List Token) → is_simple t ≡ true → IsSettled v before → IsSettled v (t ∷ before)
 settled_next v t before simple s = record {
   many = two_more t before s.many;
-  version = version_stays t before s.many ∙ s.version;
+  bytes = bytes_stay t before s.many ∙ s.bytes;
+  letters = version_stays (pos 3) t before s.many ∙ s.letters;
   calm = calm_next t before simple s.calm;
 }
 
 -- the first three tokens
 pub settled_head : (v : Version) → IsSettled v (Word (codes "op") ∷ Number (pos (version_number v)) ∷ Word (codes "values") ∷ [])
-settled_head version.One = record { many = refl; version = refl; calm = record { now = refl; comma = refl; number = λ z. refl } }
-settled_head version.Two = record { many = refl; version = refl; calm = record { now = refl; comma = refl; number = λ z. refl } }
+settled_head version.One = record { many = refl; bytes = refl; letters = refl; calm = record { now = refl; comma = refl; number = λ z. refl } }
+settled_head version.Two = record { many = refl; bytes = refl; letters = refl; calm = record { now = refl; comma = refl; number = λ z. refl } }
+settled_head version.Three = record { many = refl; bytes = refl; letters = refl; calm = record { now = refl; comma = refl; number = λ z. refl } }
 
 -- before them
-pub cutting_first : cutting [] ≡ record { bytes = false; uuid = false }
+pub cutting_first : cutting [] ≡ record { bytes = false; letters = false; uuid = false }
 cutting_first = refl
 
-pub cutting_second : cutting (Word (codes "values") ∷ []) ≡ record { bytes = false; uuid = false }
+pub cutting_second : cutting (Word (codes "values") ∷ []) ≡ record { bytes = false; letters = false; uuid = false }
 cutting_second = refl
 
-pub cutting_third : (v : Version) → cutting (Number (pos (version_number v)) ∷ Word (codes "values") ∷ []) ≡ record { bytes = has_bytes v; uuid = false }
+pub cutting_third : (v : Version) → cutting (Number (pos (version_number v)) ∷ Word (codes "values") ∷ []) ≡ how v false
 cutting_third version.One = refl
 cutting_third version.Two = refl
+cutting_third version.Three = refl
 
 -- ## A context handle: after `ctx`, after the parenthesis, after the number, after the comma, and after the whole
 module _ (v : Version) (before : List Token) (s : IsSettled v before) where
@@ -137,36 +161,49 @@ module _ (v : Version) (before : List Token) (s : IsSettled v before) where
   abbrev opened : List Token
   opened = Mark 40 ∷ Word (codes "ctx") ∷ before
 
-  opened_two : has_version (pos 2) opened ≡ has_bytes v
-  opened_two = version_stays (Mark 40) (Word (codes "ctx") ∷ before) settled_ctx.many ∙ settled_ctx.version
+  opened_bytes : (cutting opened).bytes ≡ has_bytes v
+  opened_bytes = bytes_stay (Mark 40) (Word (codes "ctx") ∷ before) settled_ctx.many ∙ settled_ctx.bytes
 
-  pub cutting_ctx_1 : cutting (Word (codes "ctx") ∷ before) ≡ record { bytes = has_bytes v; uuid = false }
+  opened_letters : (cutting opened).letters ≡ has_letter_lists v
+  opened_letters = version_stays (pos 3) (Mark 40) (Word (codes "ctx") ∷ before) settled_ctx.many ∙ settled_ctx.letters
+
+  pub cutting_ctx_1 : cutting (Word (codes "ctx") ∷ before) ≡ how v false
   cutting_ctx_1 = settled_cutting v (Word (codes "ctx") ∷ before) settled_ctx
 
-  pub cutting_ctx_2 : cutting (Mark 40 ∷ Word (codes "ctx") ∷ before) ≡ record { bytes = has_bytes v; uuid = false }
-  cutting_ctx_2 = ap₂ (λ b u. record { bytes = b; uuid = u }) opened_two (no_uuid (Mark 40) (Word (codes "ctx") ∷ before) refl)
+  pub cutting_ctx_2 : cutting (Mark 40 ∷ Word (codes "ctx") ∷ before) ≡ how v false
+  cutting_ctx_2 = cut_is v opened false opened_bytes opened_letters (no_uuid (Mark 40) (Word (codes "ctx") ∷ before) refl)
 
-  numbered_two : (z : ℤ) → has_version (pos 2) (Number z ∷ opened) ≡ has_bytes v
-  numbered_two z = version_stays (Number z) opened refl ∙ opened_two
+  numbered_bytes : (z : ℤ) → (cutting (Number z ∷ opened)).bytes ≡ has_bytes v
+  numbered_bytes z = bytes_stay (Number z) opened refl ∙ opened_bytes
 
-  pub cutting_ctx_3 : (z : ℤ) → cutting (Number z ∷ Mark 40 ∷ Word (codes "ctx") ∷ before) ≡ record { bytes = has_bytes v; uuid = false }
-  cutting_ctx_3 z = ap (λ b. record { bytes = b; uuid = false }) (numbered_two z)
+  numbered_letters : (z : ℤ) → (cutting (Number z ∷ opened)).letters ≡ has_letter_lists v
+  numbered_letters z = version_stays (pos 3) (Number z) opened refl ∙ opened_letters
 
-  comma_two : (z : ℤ) → has_version (pos 2) (Mark 44 ∷ Number z ∷ opened) ≡ has_bytes v
-  comma_two z = version_stays (Mark 44) (Number z ∷ opened) refl ∙ numbered_two z
+  pub cutting_ctx_3 : (z : ℤ) → cutting (Number z ∷ Mark 40 ∷ Word (codes "ctx") ∷ before) ≡ how v false
+  cutting_ctx_3 z = cut_is v (Number z ∷ opened) false (numbered_bytes z) (numbered_letters z) refl
 
-  pub cutting_ctx_4 : (z : ℤ) → cutting (Mark 44 ∷ Number z ∷ Mark 40 ∷ Word (codes "ctx") ∷ before) ≡ record { bytes = has_bytes v; uuid = true }
-  cutting_ctx_4 z = ap (λ b. record { bytes = b; uuid = true }) (comma_two z)
+  comma_bytes : (z : ℤ) → (cutting (Mark 44 ∷ Number z ∷ opened)).bytes ≡ has_bytes v
+  comma_bytes z = bytes_stay (Mark 44) (Number z ∷ opened) refl ∙ numbered_bytes z
 
-  uuid_two : (z : ℤ) (id : List ℕ) → has_version (pos 2) (Uuid id ∷ Mark 44 ∷ Number z ∷ opened) ≡ has_bytes v
-  uuid_two z id = version_stays (Uuid id) (Mark 44 ∷ Number z ∷ opened) refl ∙ comma_two z
+  comma_letters : (z : ℤ) → (cutting (Mark 44 ∷ Number z ∷ opened)).letters ≡ has_letter_lists v
+  comma_letters z = version_stays (pos 3) (Mark 44) (Number z ∷ opened) refl ∙ numbered_letters z
 
-  pub cutting_ctx_5 : (z : ℤ) (id : List ℕ) → cutting (Uuid id ∷ Mark 44 ∷ Number z ∷ Mark 40 ∷ Word (codes "ctx") ∷ before) ≡ record { bytes = has_bytes v; uuid = false }
-  cutting_ctx_5 z id = ap (λ b. record { bytes = b; uuid = false }) (uuid_two z id)
+  pub cutting_ctx_4 : (z : ℤ) → cutting (Mark 44 ∷ Number z ∷ Mark 40 ∷ Word (codes "ctx") ∷ before) ≡ how v true
+  cutting_ctx_4 z = cut_is v (Mark 44 ∷ Number z ∷ opened) true (comma_bytes z) (comma_letters z) refl
+
+  uuid_bytes : (z : ℤ) (id : List ℕ) → (cutting (Uuid id ∷ Mark 44 ∷ Number z ∷ opened)).bytes ≡ has_bytes v
+  uuid_bytes z id = bytes_stay (Uuid id) (Mark 44 ∷ Number z ∷ opened) refl ∙ comma_bytes z
+
+  uuid_letters : (z : ℤ) (id : List ℕ) → (cutting (Uuid id ∷ Mark 44 ∷ Number z ∷ opened)).letters ≡ has_letter_lists v
+  uuid_letters z id = version_stays (pos 3) (Uuid id) (Mark 44 ∷ Number z ∷ opened) refl ∙ comma_letters z
+
+  pub cutting_ctx_5 : (z : ℤ) (id : List ℕ) → cutting (Uuid id ∷ Mark 44 ∷ Number z ∷ Mark 40 ∷ Word (codes "ctx") ∷ before) ≡ how v false
+  cutting_ctx_5 z id = cut_is v (Uuid id ∷ Mark 44 ∷ Number z ∷ opened) false (uuid_bytes z id) (uuid_letters z id) refl
 
   pub settled_ctx_6 : (z : ℤ) (id : List ℕ) → IsSettled v (Mark 41 ∷ Uuid id ∷ Mark 44 ∷ Number z ∷ Mark 40 ∷ Word (codes "ctx") ∷ before)
   settled_ctx_6 z id = record {
     many = refl;
-    version = version_stays (Mark 41) (Uuid id ∷ Mark 44 ∷ Number z ∷ opened) refl ∙ uuid_two z id;
+    bytes = bytes_stay (Mark 41) (Uuid id ∷ Mark 44 ∷ Number z ∷ opened) refl ∙ uuid_bytes z id;
+    letters = version_stays (pos 3) (Mark 41) (Uuid id ∷ Mark 44 ∷ Number z ∷ opened) refl ∙ uuid_letters z id;
     calm = calm_context id (Mark 44 ∷ Number z ∷ opened);
   }

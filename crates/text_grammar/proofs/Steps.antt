@@ -15,7 +15,7 @@ use Rattle.text_grammar.specs.declared.version.Version.TheVariants as version
 use Rattle.text_grammar.specs.declared.fault.TextReason.TheVariants as reason
 use Rattle.text_grammar.specs.Tokens.{Token, Word, Number, Cell, Str, Bytes, Letters, Uuid, Mark}
 use Rattle.text_grammar.specs.Written.{Piece, Name, Other, token_of, comma, version_number}
-use Rattle.text_grammar.specs.Dues.{Due, This, AVersion, ANumber, ACount, AString, SomeBytes, AUuid, ATag, APointer, NextElement, AValue, Reading, tag_dues, is_this, why_not, went_on_if, with_version}
+use Rattle.text_grammar.specs.Dues.{Due, This, AVersion, ANumber, ACount, AString, SomeBytes, SomeLetters, AUuid, ATag, APointer, NextElement, AValue, Reading, tag_dues, is_this, why_not, went_on_if, with_version}
 use Rattle.text_grammar.specs.Dues.{version_of, opened, taken_first, may_end, all_read}
 use Rattle.text_grammar.specs.Values.{reading}
 use Rattle.text_grammar.specs.Real.{is_real}
@@ -36,12 +36,16 @@ pub real_others : (us ts : List Token) → list_all is_real (us ++ ts) ≡ true 
 real_others [] ts h = h
 real_others (u ∷ us) ts h = real_others us ts (real_rest u (us ++ ts) h)
 
-version_is : (z : ℤ) (v : Version) → version_of z ≡ Some v → z ≡ pos (version_number v)
-version_is z v e = by (int_eq z (pos 1)) refl (int_eq z (pos 2)) refl e where
+version_is : (letters : Bool) (z : ℤ) (v : Version) → version_of letters z ≡ Some v → z ≡ pos (version_number v)
+version_is false z v e = by (int_eq z (pos 1)) refl (int_eq z (pos 2)) refl e where
   by : (a : Bool) → int_eq z (pos 1) ≡ a → (b : Bool) → int_eq z (pos 2) ≡ b → cond a (Some version.One) (cond b (Some version.Two) None) ≡ Some v → z ≡ pos (version_number v)
   by true f b g e = let h : version.One ≡ v = cc in (Decides-int_eq z (pos 1)).0 f ∙ ap (λ u. pos (version_number u)) h
   by false f true g e = let h : version.Two ≡ v = cc in (Decides-int_eq z (pos 2)).0 g ∙ ap (λ u. pos (version_number u)) h
   by false f false g e = cc
+version_is true z v e = by (int_eq z (pos 3)) refl e where
+  by : (a : Bool) → int_eq z (pos 3) ≡ a → cond a (Some version.Three) None ≡ Some v → z ≡ pos (version_number v)
+  by true f e = let h : version.Three ≡ v = cc in (Decides-int_eq z (pos 3)).0 f ∙ ap (λ u. pos (version_number u)) h
+  by false f e = cc
 
 module _ (table : Table) (y : Reading) (ends : may_end y ≡ true) where
   -- reading is not at its end where more is due
@@ -84,6 +88,11 @@ module _ (table : Table) (y : Reading) (ends : may_end y ≡ true) where
     bytes_taken (Bytes octets ∷ rest) e = (octets, rest, refl, e)
     bytes_taken (tok ∷ rest) e = cc
 
+    pub letters_taken : (ts : List Token) → all_read table (reading v (SomeLetters ∷ ds) nb k) ts ≡ Ok y → (units : List ℕ) × (others : List Token) × (ts ≡ Letters units ∷ others) × Rest others
+    letters_taken [] e = absurd (not_yet (reading v (SomeLetters ∷ ds) nb k) refl e)
+    letters_taken (Letters units ∷ rest) e = (units, rest, refl, e)
+    letters_taken (tok ∷ rest) e = cc
+
     pub uuid_taken : (ts : List Token) → all_read table (reading v (AUuid ∷ ds) nb k) ts ≡ Ok y → (id : List ℕ) × (others : List Token) × (ts ≡ Uuid id ∷ others) × Rest others
     uuid_taken [] e = absurd (not_yet (reading v (AUuid ∷ ds) nb k) refl e)
     uuid_taken (Uuid id ∷ rest) e = (id, rest, refl, e)
@@ -109,15 +118,15 @@ module _ (table : Table) (y : Reading) (ends : may_end y ≡ true) where
       by false h e = cc
     pointer_taken to (tok ∷ rest) e = cc
 
-    pub version_taken : (ts : List Token) → all_read table (reading v (AVersion ∷ ds) nb k) ts ≡ Ok y
+    pub version_taken : (letters : Bool) (ts : List Token) → all_read table (reading v (AVersion letters ∷ ds) nb k) ts ≡ Ok y
         → (u : Version) × (others : List Token) × (ts ≡ Number (pos (version_number u)) ∷ others) × (all_read table (reading u ds nb k) others ≡ Ok y)
-    version_taken [] e = absurd (not_yet (reading v (AVersion ∷ ds) nb k) refl e)
-    version_taken (Number z ∷ rest) e = by (version_of z) refl e where
-      by : (o : Option Version) → version_of z ≡ o → go_on table (with_version (reading v (AVersion ∷ ds) nb k) ds o) rest ≡ Ok y
+    version_taken letters [] e = absurd (not_yet (reading v (AVersion letters ∷ ds) nb k) refl e)
+    version_taken letters (Number z ∷ rest) e = by (version_of letters z) refl e where
+      by : (o : Option Version) → version_of letters z ≡ o → go_on table (with_version (reading v (AVersion letters ∷ ds) nb k) ds o) rest ≡ Ok y
           → (u : Version) × (others : List Token) × (Number z ∷ rest ≡ Number (pos (version_number u)) ∷ others) × (all_read table (reading u ds nb k) others ≡ Ok y)
       by None h e = cc
-      by (Some u) h e = (u, rest, ap (λ (x : ℤ). Number x ∷ rest) (version_is z u h), e)
-    version_taken (tok ∷ rest) e = cc
+      by (Some u) h e = (u, rest, ap (λ (x : ℤ). Number x ∷ rest) (version_is letters z u h), e)
+    version_taken letters (tok ∷ rest) e = cc
 
     -- after an element the closing bracket comes, or a comma
     pub bracket_or_comma : (t : ℕ) (tok : Token) (rest : List Token) → all_read table (reading v (NextElement t ∷ ds) nb k) (tok ∷ rest) ≡ Ok y → (tok ≡ Mark 93) ⊎ (tok ≡ Mark 44)

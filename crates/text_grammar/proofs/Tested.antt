@@ -6,7 +6,7 @@ use Rattle.std.proofs.lemmas.Slice.Eq.{bytes_eq-Decides}
 use Rattle.std.proofs.lemmas.Option.{same_Some}
 use Rattle.std.proofs.lemmas.Bool.{and_parts, eqb-true, ltb-true}
 use Rattle.nd_base.specs.Text.{is_letter, has_form, uuid_form}
-use Rattle.text_grammar.specs.Tokens.{Token, Word, Number, Cell, Str, Bytes, Letters, Uuid, Mark, Spells, is_uuid, is_bytes, Cutting, cutting, IsCut, Begins, skip, is_mark, character, hex_pair, begins_bytes}
+use Rattle.text_grammar.specs.Tokens.{Token, Word, Number, Cell, Str, Bytes, Letters, Uuid, Mark, Spells, is_uuid, is_bytes, Cutting, cutting, IsCut, Begins, skip, is_mark, character, hex_pair, letter, begins_bytes}
 use Rattle.text_grammar.specs.Tokens.{IsQuoted, uuid_octets}
 use Rattle.text_grammar.specs.Runs.{run, after_run, begins, number_of, IsNatural}
 use Rattle.text_grammar.proofs.Scanned.{word_first, natural_some}
@@ -61,8 +61,11 @@ token_test (c ∷ cs) (Cell n) = given (eqb c 64 && (is_number (number_of (run c
 token_test [] (Str octets) = None
 token_test (c ∷ cs) (Str octets) = elim (eqb c 34) [ true ↦ string_test character octets cs | false ↦ None ]
 token_test [] (Bytes octets) = None
+token_test [] (Letters units) = None
 token_test (c ∷ []) (Bytes octets) = None
+token_test (c ∷ []) (Letters units) = None
 token_test (c ∷ d ∷ cs) (Bytes octets) = elim (eqb c 120 && eqb d 34) [ true ↦ string_test hex_pair octets cs | false ↦ None ]
+token_test (c ∷ d ∷ cs) (Letters units) = elim (eqb c 117 && eqb d 34) [ true ↦ string_test letter units cs | false ↦ None ]
 token_test text (Uuid id) = given (has_form uuid_form (take 36 text) && bytes_eq id (uuid_octets (take 36 text))) (drop 36 text)
 token_test [] (Mark m) = None
 token_test (c ∷ cs) (Mark m) = given (eqb c m && is_mark m) cs
@@ -100,12 +103,20 @@ token_tested (c ∷ cs) (Str octets) rest e = by (eqb c 34) refl e where
   by true h e = (cs, ap (λ x. x ∷ cs) (eqb-true c 34 h), string_tested character octets cs rest e)
   by false h e = cc
 token_tested [] (Bytes octets) rest e = cc
+token_tested [] (Letters units) rest e = cc
 token_tested (c ∷ []) (Bytes octets) rest e = cc
+token_tested (c ∷ []) (Letters units) rest e = cc
 token_tested (c ∷ d ∷ cs) (Bytes octets) rest e = by (eqb c 120 && eqb d 34) refl e where
   by : (b : Bool) → (eqb c 120 && eqb d 34) ≡ b → elim b as (λ _. Option (List ℕ)) [ true ↦ string_test hex_pair octets cs | false ↦ None ] ≡ Some rest
       → Spells (c ∷ d ∷ cs) (Bytes octets) rest
   by true h e = let p = and_parts (eqb c 120) (eqb d 34) h in
       (cs, ap₂ (λ x y. x ∷ y ∷ cs) (eqb-true c 120 p.0) (eqb-true d 34 p.1), string_tested hex_pair octets cs rest e)
+  by false h e = cc
+token_tested (c ∷ d ∷ cs) (Letters units) rest e = by (eqb c 117 && eqb d 34) refl e where
+  by : (b : Bool) → (eqb c 117 && eqb d 34) ≡ b → elim b as (λ _. Option (List ℕ)) [ true ↦ string_test letter units cs | false ↦ None ] ≡ Some rest
+      → Spells (c ∷ d ∷ cs) (Letters units) rest
+  by true h e = let p = and_parts (eqb c 117) (eqb d 34) h in
+      (cs, ap₂ (λ x y. x ∷ y ∷ cs) (eqb-true c 117 p.0) (eqb-true d 34 p.1), string_tested letter units cs rest e)
   by false h e = cc
 token_tested text (Uuid id) rest e =
     let g = given_true (has_form uuid_form (take 36 text) && bytes_eq id (uuid_octets (take 36 text))) (drop 36 text) rest e in

@@ -6,21 +6,22 @@ use Rattle.nd_types.specs.declared.types.TypeId.{TypeId}
 use Rattle.nd_types.specs.declared.types.TypeDef.{TypeDef}
 use Rattle.nd_types.specs.declared.types.TypeDef.TheVariants as def
 use Rattle.nd_types.specs.declared.types.Primitive.{Primitive}
-use Rattle.nd_types.specs.declared.types.Primitive.TheVariants.{Byte}
+use Rattle.nd_types.specs.declared.types.Primitive.TheVariants.{Byte, Letter}
 use Rattle.nd_types.specs.declared.types.Field.{Field}
 use Rattle.nd_types.specs.declared.types.Arm.{Arm}
 use Rattle.nd_types.specs.Layout.{type_list}
 use Rattle.nd_types.specs.Table.{Table, type_at, selected}
 use Rattle.nd_value.specs.Tree as tree
 use Rattle.nd_value.specs.Tree.{Tree, Trees, node, none, more, count, Label}
+use Rattle.nd_value.specs.Misfit.{is_octet}
 use Rattle.nd_value.specs.Nodes.{child_types, selected_types}
 use Rattle.text_grammar.specs.declared.version.Version.{Version}
 use Rattle.text_grammar.specs.Tokens.{Token, Mark}
-use Rattle.text_grammar.specs.Written.{Piece, Other, token_of, separated, members, named, unit_in, units_in, writes_octets, list_pieces, array_counts, arm_pieces, node_pieces, values_pieces}
+use Rattle.text_grammar.specs.Written.{Piece, Other, token_of, separated, members, named, unit_in, units_in, ListForm, InBrackets, AsBytes, AsLetters, list_form, list_pieces, array_counts, arm_pieces, node_pieces, values_pieces}
 use Rattle.text_grammar.specs.Written.{value_pieces}
-use Rattle.text_grammar.specs.Reads.{has_offset, has_maximum, may_be_elements, is_octet_number, are_octets, has_text_form}
+use Rattle.text_grammar.specs.Reads.{has_offset, has_maximum, may_be_elements, may_be_listed, is_letter_unit, is_unit_number, are_units, has_text_form}
 use Rattle.text_grammar.specs.Dues.{closes}
-use Rattle.text_grammar.proofs.Bytes.{bytes_alone}
+use Rattle.text_grammar.proofs.Bytes.{bytes_alone, letters_alone}
 use Rattle.text_grammar.specs.Values.{have_forms, value_tokens}
 use Rattle.text_grammar.proofs.Forms.{Form, form_of, a_number, an_enum, a_struct, an_array, a_bound_text, a_text, a_union, a_null, a_pointer, a_context, a_pipe}
 use Rattle.text_grammar.proofs.ValuesRead.{tail, separated_tail, map_both, Opens, value_read}
@@ -142,46 +143,51 @@ module _ (v : Version) (table : Table) where
       (sym (comma_tail (value_pieces v table t (node l xs)) (pieces_of (many_of t ks) ks) 93 ts) ∙ ap (λ (x : List Token). Mark 44 ∷ x) e
       ∙ comma_tail (value_pieces v table t (node m ys)) (pieces_of (many_of t us) us) 93 rs)
 
-  -- ## Octets
+  -- ## Octets and units
 
-  octet_node : (p : Primitive) (l : Label) (xs : Trees) → has_text_form v table (Some (def.Prim p)) l xs ≡ true → is_octet_number l ≡ true
+  octet_node : (is_unit : ℕ → Bool) (p : Primitive) (l : Label) (xs : Trees) → has_text_form v table (Some (def.Prim p)) l xs ≡ true → is_unit_number is_unit l ≡ true
       → node l xs ≡ node (tree.Num (pos (unit_in l))) none
-  octet_node p (tree.Num (pos b)) none h o = refl
-  octet_node p (tree.Num (negsuc b)) none h o = cc
-  octet_node p l xs h o = cc
+  octet_node is_unit p (tree.Num (pos b)) none h o = refl
+  octet_node is_unit p (tree.Num (negsuc b)) none h o = cc
+  octet_node is_unit p l xs h o = cc
 
-  octets_one : (t : ℕ) (p : Primitive) → type_at table t ≡ Some (def.Prim p) → (ks us : Trees) → have_forms v table (many_of t ks) ks ≡ true → have_forms v table (many_of t us) us ≡ true
-      → are_octets ks ≡ true → are_octets us ≡ true → units_in ks ≡ units_in us → ks ≡ us
-  octets_one t p e none none h i a b f = refl
-  octets_one t p e none (more (node m ys) us) h i a b f = cc
-  octets_one t p e (more (node l xs) ks) none h i a b f = cc
-  octets_one t p e (more (node l xs) ks) (more (node m ys) us) h i a b f =
+  octets_one : (is_unit : ℕ → Bool) (t : ℕ) (p : Primitive) → type_at table t ≡ Some (def.Prim p) → (ks us : Trees) → have_forms v table (many_of t ks) ks ≡ true → have_forms v table (many_of t us) us ≡ true
+      → are_units is_unit ks ≡ true → are_units is_unit us ≡ true → units_in ks ≡ units_in us → ks ≡ us
+  octets_one is_unit t p e none none h i a b f = refl
+  octets_one is_unit t p e none (more (node m ys) us) h i a b f = cc
+  octets_one is_unit t p e (more (node l xs) ks) none h i a b f = cc
+  octets_one is_unit t p e (more (node l xs) ks) (more (node m ys) us) h i a b f =
       let h1 = first_formed t (many_of t ks) (node l xs) ks h in
       let i1 = first_formed t (many_of t us) (node m ys) us i in
       let hf = (and_parts (has_text_form v table (type_at table t) l xs) _ h1.0).0 in
       let jf = (and_parts (has_text_form v table (type_at table t) m ys) _ i1.0).0 in
       let hp : has_text_form v table (Some (def.Prim p)) l xs ≡ true = subst (λ (d : Option TypeDef). has_text_form v table d l xs ≡ true) e hf in
       let jp : has_text_form v table (Some (def.Prim p)) m ys ≡ true = subst (λ (d : Option TypeDef). has_text_form v table d m ys ≡ true) e jf in
-      let ao = and_parts (is_octet_number l) (are_octets ks) a in
-      let bo = and_parts (is_octet_number m) (are_octets us) b in
+      let ao = and_parts (is_unit_number is_unit l) (are_units is_unit ks) a in
+      let bo = and_parts (is_unit_number is_unit m) (are_units is_unit us) b in
       let same : unit_in l ≡ unit_in m = cc in
       let others : units_in ks ≡ units_in us = cc in
-      ap₂ (λ x xs. more x xs) (octet_node p l xs hp ao.0 ∙ ap (λ x. node (tree.Num (pos x)) none) same ∙ sym (octet_node p m ys jp bo.0))
-      (octets_one t p e ks us h1.1 i1.1 ao.1 bo.1 others)
+      ap₂ (λ x xs. more x xs) (octet_node is_unit p l xs hp ao.0 ∙ ap (λ x. node (tree.Num (pos x)) none) same ∙ sym (octet_node is_unit p m ys jp bo.0))
+      (octets_one is_unit t p e ks us h1.1 i1.1 ao.1 bo.1 others)
 
   list_one : (t : ℕ) (ks us : Trees) → EachOne (many_of t ks) ks → have_forms v table (many_of t ks) ks ≡ true → have_forms v table (many_of t us) us ≡ true
       → may_be_elements v (type_at table t) ks ≡ true → may_be_elements v (type_at table t) us ≡ true → (ts rs : List Token)
-      → map token_of (list_pieces (writes_octets v (type_at table t)) ks (pieces_of (many_of t ks) ks)) ++ ts
-      ≡ map token_of (list_pieces (writes_octets v (type_at table t)) us (pieces_of (many_of t us) us)) ++ rs → (ks ≡ us) × (ts ≡ rs)
-  list_one t ks us each h i a b ts rs = by (writes_octets v (type_at table t)) refl where
-    by : (x : Bool) → writes_octets v (type_at table t) ≡ x
+      → map token_of (list_pieces (list_form v (type_at table t)) ks (pieces_of (many_of t ks) ks)) ++ ts
+      ≡ map token_of (list_pieces (list_form v (type_at table t)) us (pieces_of (many_of t us) us)) ++ rs → (ks ≡ us) × (ts ≡ rs)
+  list_one t ks us each h i a b ts rs = by (list_form v (type_at table t)) refl where
+    by : (x : ListForm) → list_form v (type_at table t) ≡ x
         → map token_of (list_pieces x ks (pieces_of (many_of t ks) ks)) ++ ts ≡ map token_of (list_pieces x us (pieces_of (many_of t us) us)) ++ rs → (ks ≡ us) × (ts ≡ rs)
-    by true w e =
-        let a' : are_octets ks ≡ true = subst (λ x. cond x (are_octets ks) true ≡ true) w a in
-        let b' : are_octets us ≡ true = subst (λ x. cond x (are_octets us) true ≡ true) w b in
+    by AsBytes w e =
+        let a' : are_units is_octet ks ≡ true = subst (λ x. may_be_listed x ks ≡ true) w a in
+        let b' : are_units is_octet us ≡ true = subst (λ x. may_be_listed x us ≡ true) w b in
         let same : units_in ks ≡ units_in us = cc in
-        (octets_one t Byte (bytes_alone v (type_at table t) w) ks us h i a' b' same, cc)
-    by false w e =
+        (octets_one is_octet t Byte (bytes_alone v (type_at table t) w) ks us h i a' b' same, cc)
+    by AsLetters w e =
+        let a' : are_units is_letter_unit ks ≡ true = subst (λ x. may_be_listed x ks ≡ true) w a in
+        let b' : are_units is_letter_unit us ≡ true = subst (λ x. may_be_listed x us ≡ true) w b in
+        let same : units_in ks ≡ units_in us = cc in
+        (octets_one is_letter_unit t Letter (letters_alone v (type_at table t) w) ks us h i a' b' same, cc)
+    by InBrackets w e =
         let e' : map token_of (separated (pieces_of (many_of t ks) ks) ++ Other (Mark 93) ∷ []) ++ ts ≡ map token_of (separated (pieces_of (many_of t us) us) ++ Other (Mark 93) ∷ []) ++ rs = cc in
         brackets_one t ks us each i ts rs e'
 

@@ -106,16 +106,16 @@ no_count (lexeme.Mark c) h = λ x ds. refl
 no_count lexeme.End h = refl
 no_count lexeme.Bad h = refl
 
-pub no_version : (l : shown.Lexeme) → version_shown l ≡ None → Wrong AVersion l (other_reason l)
-no_version (lexeme.Word word) h = λ x ds. refl
-no_version (lexeme.Number z) h = λ x ds. ap (λ v. with_version x ds v) h
-no_version (lexeme.Cell c) h = λ x ds. refl
-no_version (lexeme.Str body) h = λ octets x ds. refl
-no_version (lexeme.Bytes body) h = λ octets x ds. refl
-no_version (lexeme.Letters body) h = λ octets x ds. refl
-no_version (lexeme.Mark c) h = λ x ds. refl
-no_version lexeme.End h = refl
-no_version lexeme.Bad h = refl
+pub no_version : (letters : Bool) (l : shown.Lexeme) → version_shown letters l ≡ None → Wrong (AVersion letters) l (other_reason l)
+no_version letters (lexeme.Word word) h = λ x ds. refl
+no_version letters (lexeme.Number z) h = λ x ds. ap (λ v. with_version x ds v) h
+no_version letters (lexeme.Cell c) h = λ x ds. refl
+no_version letters (lexeme.Str body) h = λ octets x ds. refl
+no_version letters (lexeme.Bytes body) h = λ octets x ds. refl
+no_version letters (lexeme.Letters body) h = λ octets x ds. refl
+no_version letters (lexeme.Mark c) h = λ x ds. refl
+no_version letters lexeme.End h = refl
+no_version letters lexeme.Bad h = refl
 
 pub no_string : (l : shown.Lexeme) → string_shown l ≡ None → Wrong AString l (other_reason l)
 no_string (lexeme.Word word) h = λ x ds. refl

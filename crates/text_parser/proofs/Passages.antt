@@ -136,7 +136,7 @@ module _ (v : Version) (table : Table) where
 
   pub step_stays : (d : Due) (t : Token) (ds : List Due) → is_step d ≡ true → due_at v table t (d ∷ ds) ≡ d ∷ ds
   step_stays (This p) t ds h = refl
-  step_stays AVersion t ds h = refl
+  step_stays (AVersion letters) t ds h = refl
   step_stays ANumber t ds h = refl
   step_stays ACount t ds h = refl
   step_stays AString t ds h = refl
@@ -152,7 +152,7 @@ module _ (v : Version) (table : Table) where
 
   step_ends : (d : Due) (ds : List Due) (ns : Named) (cells : ℕ) → is_step d ≡ true → at_end (reading v (d ∷ ds) ns cells) ≡ Stopped 0 reason.Expected
   step_ends (This p) ds ns cells h = refl
-  step_ends AVersion ds ns cells h = refl
+  step_ends (AVersion letters) ds ns cells h = refl
   step_ends ANumber ds ns cells h = refl
   step_ends ACount ds ns cells h = refl
   step_ends AString ds ns cells h = refl

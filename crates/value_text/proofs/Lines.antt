@@ -247,10 +247,12 @@ module _ (w : Setting) (legal : IsLegalSide w) (v : Version) (g : Graph) (r : Is
   small_version : (u : Version) → version_number u < 10 ^ 20
   small_version version.One = lit< tt
   small_version version.Two = lit< tt
+  small_version version.Three = lit< tt
 
   settled_first : (u : Version) → IsSettled u (Number (pos (version_number u)) ∷ Word (codes "values") ∷ [])
-  settled_first version.One = record { many = refl; version = refl; calm = record { now = refl; comma = refl; number = λ z. refl } }
-  settled_first version.Two = record { many = refl; version = refl; calm = record { now = refl; comma = refl; number = λ z. refl } }
+  settled_first version.One = record { many = refl; bytes = refl; letters = refl; calm = record { now = refl; comma = refl; number = λ z. refl } }
+  settled_first version.Two = record { many = refl; bytes = refl; letters = refl; calm = record { now = refl; comma = refl; number = λ z. refl } }
+  settled_first version.Three = record { many = refl; bytes = refl; letters = refl; calm = record { now = refl; comma = refl; number = λ z. refl } }
 
   others_kept : length g.cells < 2 ^ 32 → AllByRecursion (KeptLine v) others
   others_kept few = (

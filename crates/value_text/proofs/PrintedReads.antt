@@ -14,5 +14,5 @@ use Rattle.value_text.proofs.CanonReadable.{readable, short}
 pub printed_reads : (w : Setting) (g : Graph) (text : List ℕ) (t : IsText w g text) → IsLegalSide w → Conforms w g → length text ≤ TEXT_LIMIT → ReadsAs w text t.canonical
 printed_reads w g text t side c few =
     subst (λ (x : List ℕ). ReadsAs w x t.canonical) (sym t.printed)
-    (text_reads w side version.Two t.canonical (readable version.Two w side g t.canonical c t.is_canonical) (short version.Two w side g t.canonical c t.is_canonical)
+    (text_reads w side (version_for w.table) t.canonical (readable (version_for w.table) w side g t.canonical c t.is_canonical) (short (version_for w.table) w side g t.canonical c t.is_canonical)
     (subst (λ (x : List ℕ). length x ≤ TEXT_LIMIT) t.printed few))

@@ -27,23 +27,23 @@ one_reading text ts us a b = by (compare [] text ts us a.end b.end a.begins b.be
 
 module _ (w : Setting) (side : IsLegalSide w) where
   -- a canonical form is read as its tokens
-  canonical_read : (g c : Graph) → Conforms w g → IsCanon w g c → AreRead [] (graph_text version.Two w c) (graph_tokens version.Two w c) []
+  canonical_read : (g c : Graph) → Conforms w g → IsCanon w g c → AreRead [] (graph_text (version_for w.table) w c) (graph_tokens (version_for w.table) w c) []
   canonical_read g c good o =
       let few : length c.cells < 2 ^ 32 = omega (arith, good.few_cells, o.same.as_many) in
-      text_tokens w side version.Two c (readable version.Two w side g c good o) (short version.Two w side g c good o) few
+      text_tokens w side (version_for w.table) c (readable (version_for w.table) w side g c good o) (short (version_for w.table) w side g c good o) few
 
   -- canonical forms with one text are the same
-  one_form : (g h c d : Graph) → Conforms w g → Conforms w h → IsCanon w g c → IsCanon w h d → graph_text version.Two w c ≡ graph_text version.Two w d → c ≡ d
+  one_form : (g h c d : Graph) → Conforms w g → Conforms w h → IsCanon w g c → IsCanon w h d → graph_text (version_for w.table) w c ≡ graph_text (version_for w.table) w d → c ≡ d
   one_form g h c d x y o u e =
-      let b : AreRead [] (graph_text version.Two w c) (graph_tokens version.Two w d) [] =
-      subst (λ (text : List ℕ). AreRead [] text (graph_tokens version.Two w d) []) (sym e) (canonical_read h d y u) in
-      tokens_one w version.Two version.Two c d (readable version.Two w side g c x o) (readable version.Two w side h d y u)
-      (one_reading (graph_text version.Two w c) (graph_tokens version.Two w c) (graph_tokens version.Two w d) (canonical_read g c x o) b)
+      let b : AreRead [] (graph_text (version_for w.table) w c) (graph_tokens (version_for w.table) w d) [] =
+      subst (λ (text : List ℕ). AreRead [] text (graph_tokens (version_for w.table) w d) []) (sym e) (canonical_read h d y u) in
+      tokens_one w (version_for w.table) (version_for w.table) c d (readable (version_for w.table) w side g c x o) (readable (version_for w.table) w side h d y u)
+      (one_reading (graph_text (version_for w.table) w c) (graph_tokens (version_for w.table) w c) (graph_tokens (version_for w.table) w d) (canonical_read g c x o) b)
 
 pub same_texts : (w : Setting) (g h : Graph) (text other : List ℕ) → IsLegalSide w → Conforms w g → Conforms w h → IsText w g text → IsText w h other
     → (Same g h → text ≡ other) × (text ≡ other → Same g h)
 same_texts w g h text other side x y t u = (
-  (λ s. t.printed ∙ ap (graph_text version.Two w) (one_canonical w side g h t.canonical u.canonical x s t.is_canonical u.is_canonical) ∙ sym u.printed),
+  (λ s. t.printed ∙ ap (graph_text (version_for w.table) w) (one_canonical w side g h t.canonical u.canonical x s t.is_canonical u.is_canonical) ∙ sym u.printed),
   (λ e.
       let same : t.canonical ≡ u.canonical =
       one_form w side g h t.canonical u.canonical x y t.is_canonical u.is_canonical (sym t.printed ∙ e ∙ u.printed) in
@@ -51,7 +51,7 @@ same_texts w g h text other side x y t u = (
 )
 
 pub text_exists : (w : Setting) (g : Graph) → IsLegalSide w → Conforms w g → (text : List ℕ) × IsText w g text
-text_exists w g side x = let (h, canon) = canonical_exists w g x side in (graph_text version.Two w h, record { canonical = h; is_canonical = canon; printed = refl })
+text_exists w g side x = let (h, canon) = canonical_exists w g x side in (graph_text (version_for w.table) w h, record { canonical = h; is_canonical = canon; printed = refl })
 
 pub text_alone : (w : Setting) (g : Graph) (text other : List ℕ) → IsLegalSide w → Conforms w g → IsText w g text → IsText w g other → text ≡ other
-text_alone w g text other side x t u = t.printed ∙ ap (graph_text version.Two w) (canonical_alone w g x side t.canonical u.canonical t.is_canonical u.is_canonical) ∙ sym u.printed
+text_alone w g text other side x t u = t.printed ∙ ap (graph_text (version_for w.table) w) (canonical_alone w g x side t.canonical u.canonical t.is_canonical u.is_canonical) ∙ sym u.printed

@@ -16,6 +16,6 @@ returns-in-Some-clause-less c =
 
 pub returns-in-None-clause-err : goal.returns-in-None-clause-err
 returns-in-None-clause-err c =
-    subst (Misses versions.One (AVersion) c.args.text.now) (sym c.unexpected.ensures)
-    (misses versions.One (AVersion) c.args.text.now c.scan-next.result.here.now c.scan-next.result.rest.now c.scan-next.result.lexeme
+    subst (Misses versions.One (AVersion c.args.letters) c.args.text.now) (sym c.unexpected.ensures)
+    (misses versions.One (AVersion c.args.letters) c.args.text.now c.scan-next.result.here.now c.scan-next.result.rest.now c.scan-next.result.lexeme
     (other_reason c.scan-next.result.lexeme) c.scan-next.ensures.here c.scan-next.ensures.comes (no_version c.scan-next.result.lexeme (sym c.in-None.ensures)))
