@@ -9,7 +9,7 @@ use Rattle.text_grammar.specs.declared.version.Version.{Version}
 use Rattle.text_grammar.specs.declared.fault.TextReason.{TextReason}
 use Rattle.text_grammar.specs.declared.fault.TextReason.TheVariants as reason
 use Rattle.text_grammar.specs.Tokens.{Token, Word, Number, Cell, Mark}
-use Rattle.text_grammar.specs.Written.{Name, Other, writes_octets, equals}
+use Rattle.text_grammar.specs.Written.{Name, Other, ListForm, InBrackets, AsBytes, AsLetters, list_form, equals}
 use Rattle.text_grammar.specs.Dues.{Due, This, AVersion, ACount, APointer, FirstElement, NextElement, AValue, ACellLine, Reading, taken, taken_first, went_on_if, with_version, with_line, is_this}
 use Rattle.text_grammar.specs.Dues.{why_not, is_count_token, version_of, named_type, value_dues, list_dues, due_at, opened, closes, next_read, all_read}
 use Rattle.text_grammar.specs.Values.{reading}
@@ -53,10 +53,11 @@ pub shut : (v : Version) (table : Table) (d : TypeDef) (t : Token) (ds : List Du
 shut v table (def.Prim p) t ds = refl
 shut v table (def.Enum values) t ds = refl
 shut v table (def.Struct members) t ds = refl
-shut v table (def.Array elem bound false) t ds = by (writes_octets v (type_at table elem.0)) where
-  by : (b : Bool) → due_at v table t (([] ++ list_dues b elem.0) ++ ds) ≡ ([] ++ list_dues b elem.0) ++ ds
-  by true = refl
-  by false = refl
+shut v table (def.Array elem bound false) t ds = by (list_form v (type_at table elem.0)) where
+  by : (b : ListForm) → due_at v table t (([] ++ list_dues b elem.0) ++ ds) ≡ ([] ++ list_dues b elem.0) ++ ds
+  by AsBytes = refl
+  by AsLetters = refl
+  by InBrackets = refl
 shut v table (def.Array elem (Some bound) true) t ds = refl
 shut v table (def.Array elem None true) t ds = refl
 shut v table (def.Text elem (Some bound)) t ds = refl
@@ -64,10 +65,11 @@ shut v table (def.Text elem None) t ds = refl
 shut v table (def.Union tag encapsulated arms default) t ds = refl
 shut v table (def.Pointer class to) t ds = refl
 shut v table def.Context t ds = refl
-shut v table (def.Pipe elem) t ds = by (writes_octets v (type_at table elem.0)) where
-  by : (b : Bool) → due_at v table t (list_dues b elem.0 ++ ds) ≡ list_dues b elem.0 ++ ds
-  by true = refl
-  by false = refl
+shut v table (def.Pipe elem) t ds = by (list_form v (type_at table elem.0)) where
+  by : (b : ListForm) → due_at v table t (list_dues b elem.0 ++ ds) ≡ list_dues b elem.0 ++ ds
+  by AsBytes = refl
+  by AsLetters = refl
+  by InBrackets = refl
 
 module _ (v : Version) (table : Table) (named : List (ℕ × ℕ)) (cells : ℕ) where
   -- where a value is due, what its type consists of is due

@@ -25,7 +25,7 @@ use Rattle.text_grammar.specs.declared.fault.TextReason.{TextReason}
 use Rattle.text_grammar.specs.declared.fault.TextReason.TheVariants as reason
 use Rattle.text_grammar.specs.declared.TheConstants.{TEXT_LIMIT}
 use Rattle.text_grammar.specs.Tokens.{Token, Word, Number, Cell, Str, Bytes, Letters, Uuid, Mark, skip, cutting, after, IsCut, Begins}
-use Rattle.text_grammar.specs.Written.{Piece, Name, Other, token_of, comma, writes_octets, graph_pieces, graph_tokens}
+use Rattle.text_grammar.specs.Written.{Piece, Name, Other, token_of, comma, ListForm, InBrackets, AsBytes, AsLetters, list_form, graph_pieces, graph_tokens}
 use Rattle.text_grammar.specs.Reads.{IsReadable, Lexeme, Cut, End, Bad, IsNext, CanGoOn, IsWhole, GoesOn, IsNameDue, IsReason, IsFirstFault}
 use Rattle.text_grammar.specs.Dues.{Due, This, AVersion, ANumber, ACount, AString, SomeBytes, AUuid, ATag, APointer, FirstElement, NextElement, AValue, ACellLine, Reading, value_dues, list_dues}
 use Rattle.text_grammar.specs.Dues.{nothing_read, named_type, is_this, is_count_token, version_of, went_on_if, with_version, with_line, taken_first, due_at, opened, closes, next_read, may_end}
@@ -96,10 +96,11 @@ module _ (v : Version) (nb : List (ℕ × ℕ)) (k : ℕ) (table : Table) where
   value_plain (def.Prim p) more = refl
   value_plain (def.Enum values) more = refl
   value_plain (def.Struct fs) more = refl
-  value_plain (def.Array elem bound false) more = by (writes_octets v (type_at table elem.0)) where
-    by : (b : Bool) → is_plain (([] ++ list_dues b elem.0) ++ more) ≡ true
-    by true = refl
-    by false = refl
+  value_plain (def.Array elem bound false) more = by (list_form v (type_at table elem.0)) where
+    by : (b : ListForm) → is_plain (([] ++ list_dues b elem.0) ++ more) ≡ true
+    by AsBytes = refl
+    by AsLetters = refl
+    by InBrackets = refl
   value_plain (def.Array elem (Some bound) true) more = refl
   value_plain (def.Array elem None true) more = refl
   value_plain (def.Text elem (Some bound)) more = refl
@@ -107,10 +108,11 @@ module _ (v : Version) (nb : List (ℕ × ℕ)) (k : ℕ) (table : Table) where
   value_plain (def.Union tag encapsulated arms default) more = refl
   value_plain (def.Pointer class to) more = refl
   value_plain def.Context more = refl
-  value_plain (def.Pipe elem) more = by (writes_octets v (type_at table elem.0)) where
-    by : (b : Bool) → is_plain (list_dues b elem.0 ++ more) ≡ true
-    by true = refl
-    by false = refl
+  value_plain (def.Pipe elem) more = by (list_form v (type_at table elem.0)) where
+    by : (b : ListForm) → is_plain (list_dues b elem.0 ++ more) ≡ true
+    by AsBytes = refl
+    by AsLetters = refl
+    by InBrackets = refl
 
   opened_plain : (t : ℕ) (more : List Due) → is_in_table table t ≡ true → is_plain (opened v table (AValue t ∷ more)) ≡ true
   opened_plain t more h = ap (λ (o : Option TypeDef). is_plain (value_dues v table o ++ more)) (known_type table t h) ∙ value_plain (get_or table t def.Context) more

@@ -15,7 +15,7 @@ use Rattle.nd_types.specs.Legal.{is_in_table}
 use Rattle.nd_value.specs.Nodes.{selected_types}
 use Rattle.text_grammar.specs.declared.version.Version.{Version}
 use Rattle.text_grammar.specs.Tokens.{Token, Word, Number, Str, Bytes, Letters, Uuid, Mark}
-use Rattle.text_grammar.specs.Written.{Piece, Name, Other, token_of, comma, word, writes_octets}
+use Rattle.text_grammar.specs.Written.{Piece, Name, Other, token_of, comma, word, ListForm, InBrackets, AsBytes, AsLetters, list_form}
 use Rattle.text_grammar.specs.Dues.{Due, This, AVersion, ANumber, ACount, AString, SomeBytes, AUuid, ATag, APointer, FirstElement, NextElement, AValue, ACellLine, separated_dues, count_dues}
 use Rattle.text_grammar.specs.Dues.{list_dues, arm_dues, value_dues, is_this, why_not, went_on_if, all_read}
 use Rattle.text_grammar.specs.Values.{reading}
@@ -195,7 +195,7 @@ module _ (table : Table) (v : Version) where
         all_filled (u ∷ us) h = let p = and_parts (test u) (list_all test us) h in (fill u p.0, all_filled us p.1)
     by_type t (def.Array elem bound varying) e test fill h =
         value_filled t (def.Array elem bound varying) e
-        (counts_begun bound varying (list_dues (writes_octets v (type_at table elem.0)) elem.0) (list_begun (writes_octets v (type_at table elem.0)) elem.0))
+        (counts_begun bound varying (list_dues (list_form v (type_at table elem.0)) elem.0) (list_begun (list_form v (type_at table elem.0)) elem.0))
     by_type t (def.Text elem (Some bound)) e test fill h = value_filled t (def.Text elem (Some bound)) e (record { first = Str []; others = []; real = refl; reads = λ more nb k ts. refl })
     by_type t (def.Text elem None) e test fill h =
         value_filled t (def.Text elem None) e (record { first = Number (pos 0); others = Mark 58 ∷ Str [] ∷ []; real = refl; reads = λ more nb k ts. refl })
@@ -215,7 +215,7 @@ module _ (table : Table) (v : Version) where
           real = refl;
           reads = λ more nb k ts. refl;
         })
-    by_type t (def.Pipe elem) e test fill h = value_filled t (def.Pipe elem) e (list_begun (writes_octets v (type_at table elem.0)) elem.0)
+    by_type t (def.Pipe elem) e test fill h = value_filled t (def.Pipe elem) e (list_begun (list_form v (type_at table elem.0)) elem.0)
 
     both_pass : (f g : ℕ → Bool) (us : List ℕ) → list_all f us ≡ true → list_all g us ≡ true → list_all (λ u. f u && g u) us ≡ true
     both_pass f g [] h i = refl

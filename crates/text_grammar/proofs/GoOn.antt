@@ -20,7 +20,7 @@ use Rattle.text_grammar.specs.declared.version.Version.TheVariants as version
 use Rattle.text_grammar.specs.declared.fault.TextReason.{TextReason}
 use Rattle.text_grammar.specs.declared.fault.TextReason.TheVariants as reason
 use Rattle.text_grammar.specs.Tokens.{Token, Word, Number, Cell, Str, Bytes, Letters, Uuid, Mark}
-use Rattle.text_grammar.specs.Written.{Name, Other, comma, colon, equals, word, side_word, writes_octets}
+use Rattle.text_grammar.specs.Written.{Name, Other, comma, colon, equals, word, side_word, ListForm, InBrackets, AsBytes, AsLetters, list_form}
 use Rattle.text_grammar.specs.Dues.{Due, This, AVersion, ANumber, ACount, AString, SomeBytes, AUuid, ATag, APointer, FirstElement, NextElement, AValue, ACellLine, Reading, separated_dues, count_dues}
 use Rattle.text_grammar.specs.Dues.{list_dues, arm_dues, value_dues, root_dues, nothing_read, named_type, with_name, opened, due_at, closes, is_this, why_not, is_count_token, version_of, went_on_if}
 use Rattle.text_grammar.specs.Dues.{with_version, with_line, taken_first, next_read, may_end, all_read}
@@ -84,7 +84,7 @@ module _ (table : Table) (known : KnowsTypes table) where
   value_good v t (Some (def.Struct fs)) e =
       good_more (separated_dues (map member_due fs)) (This (Other (Mark 125)) ∷ []) (members_good fs (parts_known table known t (def.Struct fs) e)) refl
   value_good v t (Some (def.Array elem bound varying)) e =
-      let b : Bool = writes_octets v (type_at table elem.0) in
+      let b : ListForm = list_form v (type_at table elem.0) in
       good_more (count_dues bound varying) (list_dues b elem.0) (counts_good bound varying)
       (list_good b elem.0 (and_parts (is_in_table table elem.0) true (parts_known table known t (def.Array elem bound varying) e)).0)
   value_good v t (Some (def.Text elem (Some bound))) e = refl
@@ -93,7 +93,7 @@ module _ (table : Table) (known : KnowsTypes table) where
       and_from (list_all (is_in_table table) (arm_types arms ++ default_type default)) true (parts_known table known t (def.Union tag encapsulated arms default) e) refl
   value_good v t (Some (def.Pointer class to)) e = pointee_known table known t (def.Pointer class to) e
   value_good v t (Some def.Context) e = refl
-  value_good v t (Some (def.Pipe elem)) e = list_good (writes_octets v (type_at table elem.0)) elem.0 (and_parts (is_in_table table elem.0) true (parts_known table known t (def.Pipe elem) e)).0
+  value_good v t (Some (def.Pipe elem)) e = list_good (list_form v (type_at table elem.0)) elem.0 (and_parts (is_in_table table elem.0) true (parts_known table known t (def.Pipe elem) e)).0
 
   arm_good : (ts : List ℕ) → list_all (is_in_table table) ts ≡ true → list_all (may_come table) (arm_dues ts) ≡ true
   arm_good [] h = refl

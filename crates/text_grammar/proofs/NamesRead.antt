@@ -7,7 +7,7 @@ use Rattle.nd_types.specs.declared.types.TypeId.{TypeId}
 use Rattle.nd_types.specs.declared.types.TypeDef.{TypeDef}
 use Rattle.nd_types.specs.declared.types.TypeDef.TheVariants as def
 use Rattle.nd_types.specs.declared.types.Primitive.{Primitive}
-use Rattle.nd_types.specs.declared.types.Primitive.TheVariants.{Byte}
+use Rattle.nd_types.specs.declared.types.Primitive.TheVariants.{Byte, Letter}
 use Rattle.nd_types.specs.declared.types.Field.{Field}
 use Rattle.nd_types.specs.declared.types.Arm.{Arm}
 use Rattle.nd_types.specs.Layout.{type_list}
@@ -20,12 +20,12 @@ use Rattle.text_grammar.specs.declared.version.Version.{Version}
 use Rattle.text_grammar.specs.declared.fault.TextReason.{TextReason}
 use Rattle.text_grammar.specs.declared.fault.TextReason.TheVariants as reason
 use Rattle.text_grammar.specs.Tokens.{Word, Number, Cell, Str, Bytes, Letters, Uuid, Mark}
-use Rattle.text_grammar.specs.Written.{Piece, Name, Other, token_of, comma, colon, equals, separated, members, named, units_in, writes_octets, list_pieces, array_counts, arm_pieces, node_pieces}
+use Rattle.text_grammar.specs.Written.{Piece, Name, Other, token_of, comma, colon, equals, separated, members, named, units_in, ListForm, InBrackets, AsBytes, AsLetters, list_form, list_pieces, array_counts, arm_pieces, node_pieces}
 use Rattle.text_grammar.specs.Written.{values_pieces, value_pieces}
 use Rattle.text_grammar.specs.Reads.{has_offset, has_maximum, has_text_form}
 use Rattle.text_grammar.specs.Dues.{Due, This, ACount, AString, AUuid, FirstElement, NextElement, AValue, Reading, separated_dues, count_dues, list_dues, value_dues, arm_dues, closes, next_read}
 use Rattle.text_grammar.specs.Dues.{why_not, is_count_token, went_on_if}
-use Rattle.text_grammar.proofs.Bytes.{bytes_alone}
+use Rattle.text_grammar.proofs.Bytes.{bytes_alone, letters_alone}
 use Rattle.text_grammar.specs.Values.{reading, have_forms, noted_node, noted}
 use Rattle.text_grammar.proofs.Alike.{next_open, next_element}
 use Rattle.text_grammar.proofs.Forms.{Form, form_of, a_number, an_enum, a_struct, an_array, a_bound_text, a_text, a_union, a_null, a_pointer, a_context, a_pipe}
@@ -67,10 +67,11 @@ no_name : (v : Version) (table : Table) (d : TypeDef) (ds : List Due) → name_d
 no_name v table (def.Prim p) ds = refl
 no_name v table (def.Enum values) ds = refl
 no_name v table (def.Struct fs) ds = refl
-no_name v table (def.Array elem bound false) ds = by (writes_octets v (type_at table elem.0)) where
-  by : (b : Bool) → name_due (([] ++ list_dues b elem.0) ++ ds) ≡ false
-  by true = refl
-  by false = refl
+no_name v table (def.Array elem bound false) ds = by (list_form v (type_at table elem.0)) where
+  by : (b : ListForm) → name_due (([] ++ list_dues b elem.0) ++ ds) ≡ false
+  by AsBytes = refl
+  by AsLetters = refl
+  by InBrackets = refl
 no_name v table (def.Array elem (Some bound) true) ds = refl
 no_name v table (def.Array elem None true) ds = refl
 no_name v table (def.Text elem (Some bound)) ds = refl
@@ -78,10 +79,11 @@ no_name v table (def.Text elem None) ds = refl
 no_name v table (def.Union tag encapsulated arms default) ds = refl
 no_name v table (def.Pointer class to) ds = refl
 no_name v table def.Context ds = refl
-no_name v table (def.Pipe elem) ds = by (writes_octets v (type_at table elem.0)) where
-  by : (b : Bool) → name_due (list_dues b elem.0 ++ ds) ≡ false
-  by true = refl
-  by false = refl
+no_name v table (def.Pipe elem) ds = by (list_form v (type_at table elem.0)) where
+  by : (b : ListForm) → name_due (list_dues b elem.0 ++ ds) ≡ false
+  by AsBytes = refl
+  by AsLetters = refl
+  by InBrackets = refl
 
 module _ (v : Version) (table : Table) (nb : List (ℕ × ℕ)) (k : ℕ) where
   pieces_open : (t : ℕ) (d : TypeDef) → type_at table t ≡ Some d → (ds : List Due) (p : Piece) (ps : List Piece)
@@ -224,15 +226,16 @@ module _ (v : Version) (table : Table) where
         ∙ none_noted us nb
 
     list_read : (ks : Trees) → EachReads (replicate (count ks) t) ks → (ds : List Due) (nb : List (ℕ × ℕ)) (cells : ℕ) (ts : List Piece)
-        → all_pieces table (reading v (list_dues (writes_octets v (type_at table t)) t ++ ds) nb cells)
-        ((list_pieces (writes_octets v (type_at table t)) ks (pieces_of (replicate (count ks) t) ks)) ++ ts)
+        → all_pieces table (reading v (list_dues (list_form v (type_at table t)) t ++ ds) nb cells)
+        ((list_pieces (list_form v (type_at table t)) ks (pieces_of (replicate (count ks) t) ks)) ++ ts)
         ≡ all_pieces table (reading v ds (noted table (replicate (count ks) t) ks nb) cells) ts
-    list_read ks each ds nb cells ts = by (writes_octets v (type_at table t)) refl where
-      by : (b : Bool) → writes_octets v (type_at table t) ≡ b
+    list_read ks each ds nb cells ts = by (list_form v (type_at table t)) refl where
+      by : (b : ListForm) → list_form v (type_at table t) ≡ b
           → all_pieces table (reading v (list_dues b t ++ ds) nb cells) ((list_pieces b ks (pieces_of (replicate (count ks) t) ks)) ++ ts)
           ≡ all_pieces table (reading v ds (noted table (replicate (count ks) t) ks nb) cells) ts
-      by true e = ap (λ (l : List (ℕ × ℕ)). all_pieces table (reading v ds l cells) ts) (sym (numbers_noted Byte (bytes_alone v (type_at table t) e) ks nb))
-      by false e = elements_read ks each ds nb cells ts
+      by AsBytes e = ap (λ (l : List (ℕ × ℕ)). all_pieces table (reading v ds l cells) ts) (sym (numbers_noted Byte (bytes_alone v (type_at table t) e) ks nb))
+      by AsLetters e = ap (λ (l : List (ℕ × ℕ)). all_pieces table (reading v ds l cells) ts) (sym (numbers_noted Letter (letters_alone v (type_at table t) e) ks nb))
+      by InBrackets e = elements_read ks each ds nb cells ts
 
   -- ## Counts
 
@@ -314,7 +317,7 @@ module _ (v : Version) (table : Table) where
       (λ ds nb cells ts. members_read fs ks each ds nb cells ts)
   by_form t _ _ _ e (an_array elem bound varying max offset ks m o b) each =
       let values : List (List Piece) = pieces_of (replicate (count ks) elem.0) ks in
-      let w : Bool = writes_octets v (type_at table elem.0) in
+      let w : ListForm = list_form v (type_at table elem.0) in
       node_read t (def.Array elem bound varying) (tree.Arr max offset) ks e (array_opens bound varying max offset (list_pieces w ks values) (list_opens w ks values))
       (λ ds nb cells ts.
       ap (λ (l : List Due). all_pieces table (reading v l nb cells) ((array_counts bound varying max offset ++ list_pieces w ks values) ++ ts))
@@ -342,7 +345,7 @@ module _ (v : Version) (table : Table) where
       (λ ds nb cells ts.
       count_read v table nb cells attributes (This comma ∷ AUuid ∷ This (Other (Mark 41)) ∷ ds) (comma ∷ Other (Uuid id) ∷ Other (Mark 41) ∷ ts) h)
   by_form t _ _ _ e (a_pipe elem ks b) each =
-      node_read t (def.Pipe elem) tree.Pipe ks e (list_opens (writes_octets v (type_at table elem.0)) ks (pieces_of (replicate (count ks) elem.0) ks))
+      node_read t (def.Pipe elem) tree.Pipe ks e (list_opens (list_form v (type_at table elem.0)) ks (pieces_of (replicate (count ks) elem.0) ks))
       (λ ds nb cells ts. list_read elem.0 ks each ds nb cells ts)
 
   -- ## Values

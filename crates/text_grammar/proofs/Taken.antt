@@ -10,7 +10,8 @@ use Rattle.std.proofs.lemmas.List.Folds.{list_all-append}
 use Rattle.nd_types.specs.declared.types.TypeId.{TypeId}
 use Rattle.nd_types.specs.declared.types.TypeDef.{TypeDef}
 use Rattle.nd_types.specs.declared.types.TypeDef.TheVariants as def
-use Rattle.nd_types.specs.declared.types.Primitive.TheVariants.{Byte}
+use Rattle.nd_types.specs.declared.types.Primitive.{Primitive}
+use Rattle.nd_types.specs.declared.types.Primitive.TheVariants.{Byte, Letter}
 use Rattle.nd_types.specs.declared.types.Class.{Class}
 use Rattle.nd_types.specs.declared.types.Field.{Field}
 use Rattle.nd_types.specs.declared.types.Arm.{Arm}
@@ -25,17 +26,17 @@ use Rattle.nd_value.specs.Nodes.{child_types, selected_types}
 use Rattle.nd_value.specs.Misfit.{is_octet, is_count}
 use Rattle.text_grammar.specs.declared.version.Version.{Version}
 use Rattle.text_grammar.specs.Tokens.{Token, Word, Number, Cell, Str, Bytes, Letters, Uuid, Mark}
-use Rattle.text_grammar.specs.Written.{Piece, Name, Other, token_of, comma, colon, equals, word, separated, members, named, units_in, writes_octets, list_pieces, arm_pieces, node_pieces}
+use Rattle.text_grammar.specs.Written.{Piece, Name, Other, token_of, comma, colon, equals, word, separated, members, named, units_in, ListForm, InBrackets, AsBytes, AsLetters, list_form, list_pieces, arm_pieces, node_pieces}
 use Rattle.text_grammar.specs.Written.{values_pieces, value_pieces}
-use Rattle.text_grammar.specs.Reads.{has_maximum, has_offset, are_octets, may_be_elements, has_text_form}
+use Rattle.text_grammar.specs.Reads.{has_maximum, has_offset, are_units, is_letter_unit, may_be_listed, may_be_elements, has_text_form}
 use Rattle.text_grammar.specs.Dues.{Due, This, ACount, AString, AUuid, FirstElement, NextElement, AValue, Reading, separated_dues, count_dues, list_dues, arm_dues, value_dues, closes, may_end}
 use Rattle.text_grammar.specs.Dues.{all_read}
-use Rattle.text_grammar.proofs.Bytes.{bytes_alone}
+use Rattle.text_grammar.proofs.Bytes.{bytes_alone, letters_alone}
 use Rattle.text_grammar.specs.Values.{reading, have_forms, noted, value_tokens}
 use Rattle.text_grammar.specs.Real.{is_real}
 use Rattle.text_grammar.proofs.Alike.{all_open, all_element}
 use Rattle.text_grammar.proofs.ValuesRead.{tail, separated_tail, member_due, member_tail, separated_members, map_both, value_read}
-use Rattle.text_grammar.proofs.Steps.{real_rest, real_others, not_yet, this_taken, number_taken, count_taken, string_taken, bytes_taken, uuid_taken, tag_taken, PointerTaken, null_taken}
+use Rattle.text_grammar.proofs.Steps.{real_rest, real_others, not_yet, this_taken, number_taken, count_taken, string_taken, bytes_taken, letters_taken, uuid_taken, tag_taken, PointerTaken, null_taken}
 use Rattle.text_grammar.proofs.Steps.{cell_taken, pointer_taken, bracket_or_comma}
 
 -- ## The types of a table that names none but its own
@@ -297,46 +298,58 @@ module _ (table : Table) (known : KnowsTypes table) (y : Reading) (ends : may_en
   bytes_same [] = refl
   bytes_same (b ∷ bs) = ap (λ (l : List ℕ). b ∷ l) (bytes_same bs)
 
-  bytes_are : (octets : List ℕ) → list_all is_octet octets ≡ true → are_octets (unit_trees octets) ≡ true
-  bytes_are [] h = refl
-  bytes_are (b ∷ bs) h = let p = and_parts (is_octet b) (list_all is_octet bs) h in and_from (is_octet b) (are_octets (unit_trees bs)) p.0 (bytes_are bs p.1)
+  units_are : (is_unit : ℕ → Bool) (units : List ℕ) → list_all is_unit units ≡ true → are_units is_unit (unit_trees units) ≡ true
+  units_are is_unit [] h = refl
+  units_are is_unit (b ∷ bs) h =
+      let p = and_parts (is_unit b) (list_all is_unit bs) h in and_from (is_unit b) (are_units is_unit (unit_trees bs)) p.0 (units_are is_unit bs p.1)
 
-  bytes_forms : (t : ℕ) → type_at table t ≡ Some (def.Prim Byte) → (octets : List ℕ) → have_forms v table (many_of t (unit_trees octets)) (unit_trees octets) ≡ true
-  bytes_forms t e [] = refl
-  bytes_forms t e (b ∷ bs) =
+  units_forms : (t : ℕ) (q : Primitive) → type_at table t ≡ Some (def.Prim q) → (octets : List ℕ) → have_forms v table (many_of t (unit_trees octets)) (unit_trees octets) ≡ true
+  units_forms t q e [] = refl
+  units_forms t q e (b ∷ bs) =
       more_forms v table t (many_of t (unit_trees bs)) (node (tree.Num (pos b)) none) (unit_trees bs)
       (subst (λ (d : Option TypeDef). (has_text_form v table d (tree.Num (pos b)) none && (have_forms v table (child_types d (tree.Num (pos b)) none) none && true)) ≡ true) (sym e) refl)
-      (bytes_forms t e bs)
+      (units_forms t q e bs)
 
   record ListTaken (t : ℕ) (ts : List Token) : Type 0 where
     pub values : Trees
     pub forms : have_forms v table (many_of t values) values ≡ true
     pub elements : may_be_elements v (type_at table t) values ≡ true
     pub others : List Token
-    pub is : ts ≡ map token_of (list_pieces (writes_octets v (type_at table t)) values (pieces_of v table (many_of t values) values)) ++ others
+    pub is : ts ≡ map token_of (list_pieces (list_form v (type_at table t)) values (pieces_of v table (many_of t values) values)) ++ others
 
   list_taken : (n : ℕ) → Takes n → (t : ℕ) → is_in_table table t ≡ true → (ts : List Token) → length ts ≤ n + 1 → list_all is_real ts ≡ true
-      → (ds : List Due) (nb : List (ℕ × ℕ)) (k : ℕ) → all_read table (reading v (list_dues (writes_octets v (type_at table t)) t ++ ds) nb k) ts ≡ Ok y → ListTaken t ts
-  list_taken n takes t h ts short real ds nb k = by (writes_octets v (type_at table t)) refl where
-    by : (b : Bool) → writes_octets v (type_at table t) ≡ b → all_read table (reading v (list_dues b t ++ ds) nb k) ts ≡ Ok y → ListTaken t ts
-    by true w e =
+      → (ds : List Due) (nb : List (ℕ × ℕ)) (k : ℕ) → all_read table (reading v (list_dues (list_form v (type_at table t)) t ++ ds) nb k) ts ≡ Ok y → ListTaken t ts
+  list_taken n takes t h ts short real ds nb k = by (list_form v (type_at table t)) refl where
+    by : (b : ListForm) → list_form v (type_at table t) ≡ b → all_read table (reading v (list_dues b t ++ ds) nb k) ts ≡ Ok y → ListTaken t ts
+    by AsBytes w e =
         let a = bytes_taken table y ends v ds nb k ts e in
         let p = and_parts (is_real (Bytes a.0)) (list_all is_real a.1) (ap (list_all is_real) (sym a.2) ∙ real) in
         record {
           values = unit_trees a.0;
-          forms = bytes_forms t (bytes_alone v (type_at table t) w) a.0;
-          elements = ap (λ (b : Bool). cond b (are_octets (unit_trees a.0)) true) w ∙ bytes_are a.0 p.0;
+          forms = units_forms t Byte (bytes_alone v (type_at table t) w) a.0;
+          elements = subst (λ f. may_be_listed f (unit_trees a.0) ≡ true) (sym w) (units_are is_octet a.0 p.0);
           others = a.1;
           is = a.2 ∙ ap (λ (l : List ℕ). Bytes l ∷ a.1) (sym (bytes_same a.0))
-              ∙ ap (λ (b : Bool). map token_of (list_pieces b (unit_trees a.0) (pieces_of v table (many_of t (unit_trees a.0)) (unit_trees a.0))) ++ a.1) (sym w);
+              ∙ ap (λ (b : ListForm). map token_of (list_pieces b (unit_trees a.0) (pieces_of v table (many_of t (unit_trees a.0)) (unit_trees a.0))) ++ a.1) (sym w);
         }
-    by false w e =
+    by AsLetters w e =
+        let a = letters_taken table y ends v ds nb k ts e in
+        let p = and_parts (is_real (Letters a.0)) (list_all is_real a.1) (ap (list_all is_real) (sym a.2) ∙ real) in
+        record {
+          values = unit_trees a.0;
+          forms = units_forms t Letter (letters_alone v (type_at table t) w) a.0;
+          elements = subst (λ f. may_be_listed f (unit_trees a.0) ≡ true) (sym w) (units_are is_letter_unit a.0 p.0);
+          others = a.1;
+          is = a.2 ∙ ap (λ (l : List ℕ). Letters l ∷ a.1) (sym (bytes_same a.0))
+              ∙ ap (λ (b : ListForm). map token_of (list_pieces b (unit_trees a.0) (pieces_of v table (many_of t (unit_trees a.0)) (unit_trees a.0))) ++ a.1) (sym w);
+        }
+    by InBrackets w e =
         let a = this_taken table y ends v (FirstElement t ∷ ds) nb k (Other (Mark 91)) ts e in
         let r = brackets_taken n takes t h a.0 (omega (arith, ap length a.1, short)) (real_rest (Mark 91) a.0 (ap (list_all is_real) (sym a.1) ∙ real)) ds nb k a.2 in
         record {
           values = r.values;
           forms = r.forms;
-          elements = ap (λ (b : Bool). cond b (are_octets r.values) true) w;
+          elements = subst (λ f. may_be_listed f r.values ≡ true) (sym w) refl;
           others = r.others;
           is = a.1 ∙ ap (λ (l : List Token). Mark 91 ∷ l) r.is
               ∙ ap (λ (b : Bool). map token_of (list_pieces b r.values (pieces_of v table (many_of t r.values) r.values)) ++ r.others) (sym w);
@@ -390,7 +403,7 @@ module _ (table : Table) (known : KnowsTypes table) (y : Reading) (ends : may_en
         and_from (has_maximum bound varying max ks) _ a (and_from (has_offset varying offset) (may_be_elements v (type_at table elem.0) ks) b c)
 
     array_taken : (elem : TypeId) (bound : Option ℕ) (varying : Bool) → type_at table t ≡ Some (def.Array elem bound varying) → is_in_table table elem.0 ≡ true
-        → all_read table (reading v (count_dues bound varying ++ (list_dues (writes_octets v (type_at table elem.0)) elem.0 ++ ds)) nb k) ts ≡ Ok y → Taken t ts
+        → all_read table (reading v (count_dues bound varying ++ (list_dues (list_form v (type_at table elem.0)) elem.0 ++ ds)) nb k) ts ≡ Ok y → Taken t ts
     array_taken elem (Some bound) false e h i =
         let r = list_taken n takes elem.0 h ts short real ds nb k i in
         node_taken t (def.Array elem (Some bound) false) (tree.Arr bound 0) r.values ts r.others e
@@ -400,14 +413,14 @@ module _ (table : Table) (known : KnowsTypes table) (y : Reading) (ends : may_en
         node_taken t (def.Array elem None false) (tree.Arr (count r.values) 0) r.values ts r.others e
         (array_form elem None false (count r.values) 0 r.values (eq-eqb (count r.values) (count r.values) refl) refl r.elements) r.forms r.is
     array_taken elem (Some bound) true e h i =
-        let c = counted (list_dues (writes_octets v (type_at table elem.0)) elem.0 ++ ds) nb k ts real i in
+        let c = counted (list_dues (list_form v (type_at table elem.0)) elem.0 ++ ds) nb k ts real i in
         let r = list_taken n takes elem.0 h c.others (omega (arith, ap length c.is, short)) c.real ds nb k c.read in
         node_taken t (def.Array elem (Some bound) true) (tree.Arr bound c.n) r.values ts r.others e
         (array_form elem (Some bound) true bound c.n r.values (eq-eqb bound bound refl) c.small r.elements) r.forms
         (c.is ∙ ap (λ (l : List Token). Number (pos c.n) ∷ Mark 58 ∷ l) r.is)
     array_taken elem None true e h i =
-        let b = counted (ACount ∷ This colon ∷ (list_dues (writes_octets v (type_at table elem.0)) elem.0 ++ ds)) nb k ts real i in
-        let c = counted (list_dues (writes_octets v (type_at table elem.0)) elem.0 ++ ds) nb k b.others b.real b.read in
+        let b = counted (ACount ∷ This colon ∷ (list_dues (list_form v (type_at table elem.0)) elem.0 ++ ds)) nb k ts real i in
+        let c = counted (list_dues (list_form v (type_at table elem.0)) elem.0 ++ ds) nb k b.others b.real b.read in
         let r = list_taken n takes elem.0 h c.others (omega (arith, ap length b.is, ap length c.is, short)) c.real ds nb k c.read in
         node_taken t (def.Array elem None true) (tree.Arr b.n c.n) r.values ts r.others e
         (array_form elem None true b.n c.n r.values b.small c.small r.elements) r.forms
@@ -500,7 +513,7 @@ module _ (table : Table) (known : KnowsTypes table) (y : Reading) (ends : may_en
         node_taken t (def.Struct fs) tree.Rec r.values ts r.others e (eq-eqb (count r.values) (length fs) (forms_count fs r.values r.forms)) r.forms (a.1 ∙ ap (λ (l : List Token). Mark 123 ∷ l) r.is)
     by_type (def.Array elem bound varying) e h i =
         array_taken elem bound varying e (and_parts (is_in_table table elem.0) true h).0
-        (ap (λ (l : List Due). all_read table (reading v l nb k) ts) (sym (append_assoc (count_dues bound varying) (list_dues (writes_octets v (type_at table elem.0)) elem.0) ds)) ∙ i)
+        (ap (λ (l : List Due). all_read table (reading v l nb k) ts) (sym (append_assoc (count_dues bound varying) (list_dues (list_form v (type_at table elem.0)) elem.0) ds)) ∙ i)
     by_type (def.Text elem (Some bound)) e h i =
         let a = string_taken table y ends v ds nb k ts i in
         let p = and_parts (is_real (Str a.0)) (list_all is_real a.1) (ap (list_all is_real) (sym a.2) ∙ real) in

@@ -247,7 +247,7 @@ module _ (v : Version) (table : Table) where
       let r = struct_one fs ks us each h ts rs e' in
       (ap (node tree.Rec) r.0, r.1)
   node_one _ _ _ _ _ (an_array elem bound varying max offset ks m o b) (an_array _ _ _ max' offset' us m' o' b') each g h ts rs e =
-      let w : Bool = writes_octets v (type_at table elem.0) in
+      let w : ListForm = list_form v (type_at table elem.0) in
       let ps : List Piece = list_pieces w ks (pieces_of (many_of elem.0 ks) ks) in
       let qs : List Piece = list_pieces w us (pieces_of (many_of elem.0 us) us) in
       let c = counts_one bound varying max offset max' offset' (map token_of ps ++ ts) (map token_of qs ++ rs) o o'

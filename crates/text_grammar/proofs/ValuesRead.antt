@@ -7,7 +7,7 @@ use Rattle.nd_types.specs.declared.types.TypeId.{TypeId}
 use Rattle.nd_types.specs.declared.types.TypeDef.{TypeDef}
 use Rattle.nd_types.specs.declared.types.TypeDef.TheVariants as def
 use Rattle.nd_types.specs.declared.types.Primitive.{Primitive}
-use Rattle.nd_types.specs.declared.types.Primitive.TheVariants.{Byte}
+use Rattle.nd_types.specs.declared.types.Primitive.TheVariants.{Byte, Letter}
 use Rattle.nd_types.specs.declared.types.Field.{Field}
 use Rattle.nd_types.specs.declared.types.Arm.{Arm}
 use Rattle.nd_types.specs.Layout.{type_list}
@@ -18,11 +18,11 @@ use Rattle.nd_value.specs.Nodes.{child_types, selected_types}
 use Rattle.nd_value.specs.Misfit.{is_count}
 use Rattle.text_grammar.specs.declared.version.Version.{Version}
 use Rattle.text_grammar.specs.Tokens.{Token, Word, Number, Cell, Str, Bytes, Uuid, Mark}
-use Rattle.text_grammar.specs.Written.{Piece, Name, Other, token_of, comma, colon, equals, separated, members, named, units_in, writes_octets, list_pieces, array_counts, arm_pieces, node_pieces}
+use Rattle.text_grammar.specs.Written.{Piece, Name, Other, token_of, comma, colon, equals, separated, members, named, units_in, ListForm, InBrackets, AsBytes, AsLetters, list_form, list_pieces, array_counts, arm_pieces, node_pieces}
 use Rattle.text_grammar.specs.Written.{values_pieces, value_pieces}
 use Rattle.text_grammar.specs.Reads.{has_offset, has_maximum, has_text_form}
 use Rattle.text_grammar.specs.Dues.{Due, This, ACount, AString, AUuid, FirstElement, NextElement, AValue, separated_dues, named_due, count_dues, list_dues, value_dues, arm_dues, closes, all_read}
-use Rattle.text_grammar.proofs.Bytes.{bytes_alone}
+use Rattle.text_grammar.proofs.Bytes.{bytes_alone, letters_alone}
 use Rattle.text_grammar.specs.Values.{reading, have_forms, noted_node, noted, value_tokens}
 use Rattle.text_grammar.proofs.Alike.{all_open, all_element, name_read, count_read}
 use Rattle.text_grammar.proofs.Forms.{Form, form_of, a_number, an_enum, a_struct, an_array, a_bound_text, a_text, a_union, a_null, a_pointer, a_context, a_pipe}
@@ -169,15 +169,16 @@ module _ (v : Version) (table : Table) where
         ∙ none_noted us nb
 
     list_read : (ks : Trees) → EachReads (replicate (count ks) t) ks → (ds : List Due) (nb : List (ℕ × ℕ)) (cells : ℕ) (ts : List Token)
-        → all_read table (reading v (list_dues (writes_octets v (type_at table t)) t ++ ds) nb cells)
-        (map token_of (list_pieces (writes_octets v (type_at table t)) ks (pieces_of (replicate (count ks) t) ks)) ++ ts)
+        → all_read table (reading v (list_dues (list_form v (type_at table t)) t ++ ds) nb cells)
+        (map token_of (list_pieces (list_form v (type_at table t)) ks (pieces_of (replicate (count ks) t) ks)) ++ ts)
         ≡ all_read table (reading v ds (noted table (replicate (count ks) t) ks nb) cells) ts
-    list_read ks each ds nb cells ts = by (writes_octets v (type_at table t)) refl where
-      by : (b : Bool) → writes_octets v (type_at table t) ≡ b
+    list_read ks each ds nb cells ts = by (list_form v (type_at table t)) refl where
+      by : (b : ListForm) → list_form v (type_at table t) ≡ b
           → all_read table (reading v (list_dues b t ++ ds) nb cells) (map token_of (list_pieces b ks (pieces_of (replicate (count ks) t) ks)) ++ ts)
           ≡ all_read table (reading v ds (noted table (replicate (count ks) t) ks nb) cells) ts
-      by true e = ap (λ (l : List (ℕ × ℕ)). all_read table (reading v ds l cells) ts) (sym (numbers_noted Byte (bytes_alone v (type_at table t) e) ks nb))
-      by false e = elements_read ks each ds nb cells ts
+      by AsBytes e = ap (λ (l : List (ℕ × ℕ)). all_read table (reading v ds l cells) ts) (sym (numbers_noted Byte (bytes_alone v (type_at table t) e) ks nb))
+      by AsLetters e = ap (λ (l : List (ℕ × ℕ)). all_read table (reading v ds l cells) ts) (sym (numbers_noted Letter (letters_alone v (type_at table t) e) ks nb))
+      by InBrackets e = elements_read ks each ds nb cells ts
 
   -- ## Counts
 
@@ -258,7 +259,7 @@ module _ (v : Version) (table : Table) where
       (λ ds nb cells ts. members_read fs ks each ds nb cells ts)
   by_form t _ _ _ e (an_array elem bound varying max offset ks m o b) each =
       let values : List (List Piece) = pieces_of (replicate (count ks) elem.0) ks in
-      let w : Bool = writes_octets v (type_at table elem.0) in
+      let w : ListForm = list_form v (type_at table elem.0) in
       node_read t (def.Array elem bound varying) (tree.Arr max offset) ks e (array_opens bound varying max offset (list_pieces w ks values) (list_opens w ks values))
       (λ ds nb cells ts.
       ap (λ (l : List Due). all_read table (reading v l nb cells) (map token_of (array_counts bound varying max offset ++ list_pieces w ks values) ++ ts))
@@ -286,7 +287,7 @@ module _ (v : Version) (table : Table) where
       (λ ds nb cells ts.
       count_read v table nb cells attributes (This comma ∷ AUuid ∷ This (Other (Mark 41)) ∷ ds) (Mark 44 ∷ Uuid id ∷ Mark 41 ∷ ts) h)
   by_form t _ _ _ e (a_pipe elem ks b) each =
-      node_read t (def.Pipe elem) tree.Pipe ks e (list_opens (writes_octets v (type_at table elem.0)) ks (pieces_of (replicate (count ks) elem.0) ks))
+      node_read t (def.Pipe elem) tree.Pipe ks e (list_opens (list_form v (type_at table elem.0)) ks (pieces_of (replicate (count ks) elem.0) ks))
       (λ ds nb cells ts. list_read elem.0 ks each ds nb cells ts)
 
   -- ## Values

@@ -18,8 +18,8 @@ use Rattle.nd_value.specs.Misfit.{is_octet}
 use Rattle.text_grammar.specs.declared.version.Version.{Version}
 use Rattle.text_grammar.specs.declared.version.Version.TheVariants as version
 use Rattle.text_grammar.specs.Tokens.{Bytes, character, escape, hex_pair, is_plain, IsQuoted, IsCut}
-use Rattle.text_grammar.specs.Written.{token_of, units_in, list_pieces, values_pieces, writes_octets}
-use Rattle.text_grammar.specs.Reads.{are_octets, has_text_form}
+use Rattle.text_grammar.specs.Written.{token_of, units_in, list_pieces, values_pieces, ListForm, InBrackets, AsBytes, AsLetters, list_form}
+use Rattle.text_grammar.specs.Reads.{are_units, has_text_form}
 use Rattle.text_grammar.specs.Dues.{SomeBytes, list_dues}
 use Rattle.text_grammar.proofs.Runs.{skip_less}
 use Rattle.text_grammar.specs.Values.{have_forms, noted, noted_node}
@@ -89,14 +89,14 @@ bytes_in : (os : List ℕ) → units_in (trees (unit_trees os)) ≡ os
 bytes_in [] = refl
 bytes_in (b ∷ os) = ap (λ (l : List ℕ). b ∷ l) (bytes_in os)
 
-bytes_are : (os : List ℕ) → list_all is_octet os ≡ true → are_octets (trees (unit_trees os)) ≡ true
+bytes_are : (os : List ℕ) → list_all is_octet os ≡ true → are_units is_octet (trees (unit_trees os)) ≡ true
 bytes_are [] h = refl
 bytes_are (b ∷ os) h =
     let p = and_parts (is_octet b) (list_all is_octet os) h in
-    and_from (is_octet b) (are_octets (trees (unit_trees os))) p.0 (bytes_are os p.1)
+    and_from (is_octet b) (are_units is_octet (trees (unit_trees os))) p.0 (bytes_are os p.1)
 
 -- the type of bytes, where they are written as octets
-byte_type : (v : Version) (d : Option TypeDef) → writes_octets v d ≡ true → d ≡ Some (def.Prim Byte)
+byte_type : (v : Version) (d : Option TypeDef) → list_form v d ≡ true → d ≡ Some (def.Prim Byte)
 byte_type version.Two (Some (def.Prim Byte)) h = refl
 byte_type v d h = cc
 
@@ -105,7 +105,7 @@ pub byte_more : (vs : List Tree) (os : List ℕ) (b : ℕ) (new : List Tree) →
 byte_more vs os b new e h =
     h ∙ ap (λ (l : List Tree). l ++ node (tree.Num (pos b)) none ∷ []) e ∙ sym (map-append (λ (b : ℕ). node (tree.Num (pos b)) none) os (b ∷ []))
 
-module _ (v : Version) (table : Table) (t : ℕ) (octets : writes_octets v (type_at table t) ≡ true) where
+module _ (v : Version) (table : Table) (t : ℕ) (octets : list_form v (type_at table t) ≡ true) where
   is : type_at table t ≡ Some (def.Prim Byte)
   is = byte_type v (type_at table t) octets
 
@@ -131,7 +131,7 @@ module _ (v : Version) (table : Table) (t : ℕ) (octets : writes_octets v (type
 
   pub bytes_read : (ns : Named) (text rest : List ℕ) (os : List ℕ) (vs : List Tree) → vs ≡ unit_trees os → IsCut (plain v) text (Bytes os) rest → AreElements v table t ns text (trees vs) ns rest
   bytes_read ns text rest os vs e cut = subst (λ (l : List Tree). AreElements v table t ns text (trees l) ns rest) (sym e) (record {
-    octets = ap (λ b. if b then are_octets (trees (unit_trees os)) else true) octets ∙ bytes_are os low;
+    octets = ap (λ b. if b then are_units is_octet (trees (unit_trees os)) else true) octets ∙ bytes_are os low;
     forms = subst (λ n. have_forms v table (replicate n t) (trees (unit_trees os)) ≡ true) (sym (counted os)) (byte_forms os);
     names = sym (ap (λ n. noted table (replicate n t) (trees (unit_trees os)) ns) (counted os) ∙ byte_noted os ns);
     passes =

@@ -9,8 +9,8 @@ use Rattle.text_grammar.specs.declared.version.Version.{Version}
 use Rattle.text_grammar.specs.declared.fault.TextReason.{TextReason}
 use Rattle.text_grammar.specs.declared.fault.TextReason.TheVariants as reason
 use Rattle.text_grammar.specs.Tokens.{Token, Word, Number, Cell, Str, Bytes, Uuid, Mark, Cutting, IsCut}
-use Rattle.text_grammar.specs.Written.{Piece, Other, comma, token_of, separated, enclosed, list_pieces, values_pieces, value_pieces, writes_octets}
-use Rattle.text_grammar.specs.Reads.{are_octets, Lexeme, Cut, End, Bad, IsNext}
+use Rattle.text_grammar.specs.Written.{Piece, Other, comma, token_of, separated, enclosed, list_pieces, values_pieces, value_pieces, ListForm, InBrackets, AsBytes, AsLetters, list_form}
+use Rattle.text_grammar.specs.Reads.{are_units, Lexeme, Cut, End, Bad, IsNext}
 use Rattle.text_grammar.specs.Dues.{Due, This, FirstElement, NextElement, AValue, opening_bracket, list_dues, Reading, closes, opened, taken_first, next_read, went_on_if}
 use Rattle.text_grammar.specs.Reader.{ComesTo, Stopped}
 use Rattle.text_grammar.specs.Settled.{IsSettled}
@@ -157,16 +157,16 @@ module _ (v : Version) (table : Table) (t : ℕ) where
         → IsCut (plain v) mid (Mark 93) rest → Passes v table (d ∷ []) ms mid (Mark 93 ∷ []) [] ms rest
     closing ms mid rest d r cut = passes_one v table (d ∷ []) [] ms ms mid rest (Mark 93) refl cut r
 
-    no_octets : (b : Bool) → b ≡ false → (ks : Trees) → (if b then are_octets ks else true) ≡ true
+    no_octets : (b : Bool) → b ≡ false → (ks : Trees) → (if b then are_units is_octet ks else true) ≡ true
     no_octets true e ks = cc
     no_octets false e ks = refl
 
-    module _ (plainly : writes_octets v (type_at table t) ≡ false) where
+    module _ (plainly : list_form v (type_at table t) ≡ false) where
       list_by : (vs : List Tree) (ms : Named) (rest : List ℕ) → have_forms v table (replicate (length vs) t) (trees vs) ≡ true → ms ≡ noted table (replicate (length vs) t) (trees vs) ns
           → Passes v table (list_dues false t) ns text (map token_of (enclosed 91 (values_pieces v table (replicate (length vs) t) (trees vs)) 93)) [] ms rest
           → node_count (trees vs) + 1 + length rest ≤ length text → AreElements v table t ns text (trees vs) ms rest
       list_by vs ms rest forms names passes few = record {
-        octets = no_octets (writes_octets v (type_at table t)) plainly (trees vs);
+        octets = no_octets (list_form v (type_at table t)) plainly (trees vs);
         forms = subst (λ n. have_forms v table (replicate n t) (trees vs) ≡ true) (sym (count_trees vs)) forms;
         names = names ∙ ap (λ n. noted table (replicate n t) (trees vs) ns) (sym (count_trees vs));
         passes =

@@ -7,7 +7,7 @@ use Rattle.text_grammar.specs.declared.version.Version.{Version}
 use Rattle.text_grammar.specs.declared.fault.TextReason.{TextReason}
 use Rattle.text_grammar.specs.declared.fault.TextReason.TheVariants as reason
 use Rattle.text_grammar.specs.Tokens.{Token, Word, Number, Begins, after, skip, cutting, Cutting, IsCut}
-use Rattle.text_grammar.specs.Written.{writes_octets, version_number}
+use Rattle.text_grammar.specs.Written.{ListForm, InBrackets, AsBytes, AsLetters, list_form, version_number}
 use Rattle.text_grammar.specs.Reads.{Lexeme, Cut, End, Bad, IsNext}
 use Rattle.text_grammar.specs.Dues.{Due, This, AVersion, ANumber, ACount, AString, SomeBytes, AUuid, ATag, APointer, FirstElement, NextElement, AValue, ACellLine, Reading, taken_first, due_at}
 use Rattle.text_grammar.specs.Dues.{next_read, all_read, value_dues, list_dues, closes}
@@ -203,10 +203,11 @@ module _ (v : Version) (table : Table) where
   ends_alike t (def.Prim p) ds ns cells = refl
   ends_alike t (def.Enum values) ds ns cells = refl
   ends_alike t (def.Struct members) ds ns cells = refl
-  ends_alike t (def.Array elem bound false) ds ns cells = by (writes_octets v (type_at table elem.0)) where
-    by : (b : Bool) → at_end (reading v (([] ++ list_dues b elem.0) ++ ds) ns cells) ≡ Stopped 0 reason.Expected
-    by true = refl
-    by false = refl
+  ends_alike t (def.Array elem bound false) ds ns cells = by (list_form v (type_at table elem.0)) where
+    by : (b : ListForm) → at_end (reading v (([] ++ list_dues b elem.0) ++ ds) ns cells) ≡ Stopped 0 reason.Expected
+    by AsBytes = refl
+    by AsLetters = refl
+    by InBrackets = refl
   ends_alike t (def.Array elem (Some bound) true) ds ns cells = refl
   ends_alike t (def.Array elem None true) ds ns cells = refl
   ends_alike t (def.Text elem (Some bound)) ds ns cells = refl
@@ -214,10 +215,11 @@ module _ (v : Version) (table : Table) where
   ends_alike t (def.Union tag encapsulated arms default) ds ns cells = refl
   ends_alike t (def.Pointer class to) ds ns cells = refl
   ends_alike t def.Context ds ns cells = refl
-  ends_alike t (def.Pipe elem) ds ns cells = by (writes_octets v (type_at table elem.0)) where
-    by : (b : Bool) → at_end (reading v (list_dues b elem.0 ++ ds) ns cells) ≡ Stopped 0 reason.Expected
-    by true = refl
-    by false = refl
+  ends_alike t (def.Pipe elem) ds ns cells = by (list_form v (type_at table elem.0)) where
+    by : (b : ListForm) → at_end (reading v (list_dues b elem.0 ++ ds) ns cells) ≡ Stopped 0 reason.Expected
+    by AsBytes = refl
+    by AsLetters = refl
+    by InBrackets = refl
 
   module _ (t : ℕ) (d : TypeDef) (is : type_at table t ≡ Some d) where
     pub halts_open : (ns : Named) (text : List ℕ) (e : Stop) → Halts v table (value_dues v table (Some d)) ns text e → Halts v table (AValue t ∷ []) ns text e

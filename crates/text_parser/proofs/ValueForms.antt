@@ -16,7 +16,7 @@ use Rattle.nd_value.specs.Nodes.{selected_types, child_types}
 use Rattle.nd_value.specs.Misfit.{is_octet, is_count}
 use Rattle.text_grammar.specs.declared.version.Version.{Version}
 use Rattle.text_grammar.specs.Tokens.{Token, Word, Number, Cell, Str, Bytes, Uuid, Mark, IsCut}
-use Rattle.text_grammar.specs.Written.{Other, colon, token_of, array_counts, list_pieces, arm_pieces, values_pieces, writes_octets}
+use Rattle.text_grammar.specs.Written.{Other, colon, token_of, array_counts, list_pieces, arm_pieces, values_pieces, ListForm, InBrackets, AsBytes, AsLetters, list_form}
 use Rattle.text_grammar.specs.Reads.{has_offset, has_maximum, may_be_elements, has_text_form, Lexeme, Cut, End, Bad}
 use Rattle.text_grammar.specs.Dues.{Due, This, ANumber, AString, ATag, APointer, AValue, count_dues, list_dues, arm_dues, with_name}
 use Rattle.text_grammar.specs.Values.{reading, have_forms}
@@ -104,7 +104,7 @@ module _ (v : Version) (table : Table) (t : ℕ) where
 
   module _ (elem : TypeId) (bound : Option ℕ) (varying : Bool) (is : type_at table t ≡ Some (def.Array elem bound varying)) (ns : Named) (text : List ℕ) where
     abbrev elements_due : List Due
-    elements_due = list_dues (writes_octets v (type_at table elem.0)) elem.0
+    elements_due = list_dues (list_form v (type_at table elem.0)) elem.0
 
     array_dues : (bound : Option ℕ) (varying : Bool) → count_dues bound varying ≡ written_dues (writes_maximum bound varying) ++ written_dues varying
     array_dues (Some b) true = refl
@@ -137,7 +137,7 @@ module _ (v : Version) (table : Table) (t : ℕ) where
 
         module _ (vs : List Tree) (ms : Named) (rest : List ℕ) (are : AreElements v table elem.0 ns r2 (trees vs) ms rest) where
           abbrev list_tokens : List Token
-          list_tokens = map token_of (list_pieces (writes_octets v (type_at table elem.0)) (trees vs) (values_pieces v table (replicate (count (trees vs)) elem.0) (trees vs)))
+          list_tokens = map token_of (list_pieces (list_form v (type_at table elem.0)) (trees vs) (values_pieces v table (replicate (count (trees vs)) elem.0) (trees vs)))
 
           counts_tokens : (bound : Option ℕ) (varying : Bool)
               → map token_of (array_counts bound varying (maximum_by (known_maximum bound varying written) (length vs)) offset) ≡ written_tokens (writes_maximum bound varying) written
@@ -167,7 +167,7 @@ module _ (v : Version) (table : Table) (t : ℕ) where
               (and_from (has_offset varying offset) (may_be_elements v (type_at table elem.0) (trees vs)) (offset_fits varying co z) are.octets))
               are.forms are.names
               (map-append token_of (array_counts bound varying (maximum_by (known_maximum bound varying written) (length vs)) offset)
-              (list_pieces (writes_octets v (type_at table elem.0)) (trees vs) (values_pieces v table (replicate (count (trees vs)) elem.0) (trees vs)))
+              (list_pieces (list_form v (type_at table elem.0)) (trees vs) (values_pieces v table (replicate (count (trees vs)) elem.0) (trees vs)))
               ∙ ap (λ (l : List Token). l ++ list_tokens) (counts_tokens bound varying)
               ∙ append_assoc (written_tokens (writes_maximum bound varying) written) (written_tokens varying offset) list_tokens)
               (subst (λ (l : List Due). Passes v table l ns text (written_tokens (writes_maximum bound varying) written ++ (written_tokens varying offset ++ list_tokens)) [] ms rest) (sym all_due)
@@ -179,7 +179,7 @@ module _ (v : Version) (table : Table) (t : ℕ) where
   -- ## Pipes
 
   module _ (elem : TypeId) (is : type_at table t ≡ Some (def.Pipe elem)) (ns : Named) (text : List ℕ) where
-    pub pipe_halts : (e : Stop) → Halts v table (list_dues (writes_octets v (type_at table elem.0)) elem.0) ns text e → Halts v table (AValue t ∷ []) ns text e
+    pub pipe_halts : (e : Stop) → Halts v table (list_dues (list_form v (type_at table elem.0)) elem.0) ns text e → Halts v table (AValue t ∷ []) ns text e
     pipe_halts e h = halts_open v table t (def.Pipe elem) is ns text e h
 
     pub pipe_value : (vs : List Tree) (ms : Named) (rest : List ℕ) (val : Tree) → AreElements v table elem.0 ns text (trees vs) ms rest → val ≡ node tree.Pipe (trees vs)

@@ -5,7 +5,7 @@ use Rattle.nd_types.specs.Table.{Table, type_at}
 use Rattle.nd_value.specs.Tree.{Tree, Trees, more, none, count, node_count}
 use Rattle.text_grammar.specs.declared.version.Version.{Version}
 use Rattle.text_grammar.specs.Tokens.{Token, Begins, after}
-use Rattle.text_grammar.specs.Written.{token_of, writes_octets, list_pieces, values_pieces}
+use Rattle.text_grammar.specs.Written.{token_of, ListForm, InBrackets, AsBytes, AsLetters, list_form, list_pieces, values_pieces}
 use Rattle.text_grammar.specs.Reads.{may_be_elements}
 use Rattle.text_grammar.specs.Dues.{Due, AValue, all_read, list_dues}
 use Rattle.text_grammar.specs.Reader.{ComesTo, Stopped}
@@ -47,6 +47,6 @@ pub record AreElements (v : Version) (table : Table) (t : ℕ) (ns : Named) (tex
   pub octets : may_be_elements v (type_at table t) ks ≡ true
   pub forms : have_forms v table (element_types t ks) ks ≡ true
   pub names : ms ≡ noted table (element_types t ks) ks ns
-  pub passes : Passes v table (list_dues (writes_octets v (type_at table t)) t) ns text
-      (map token_of (list_pieces (writes_octets v (type_at table t)) ks (values_pieces v table (element_types t ks) ks))) [] ms rest
+  pub passes : Passes v table (list_dues (list_form v (type_at table t)) t) ns text
+      (map token_of (list_pieces (list_form v (type_at table t)) ks (values_pieces v table (element_types t ks) ks))) [] ms rest
   pub few : node_count ks + 1 + length rest ≤ length text

@@ -15,7 +15,7 @@ use Rattle.nd_value.specs.Agreement.{Agreement}
 use Rattle.nd_value.specs.Nodes.{TypedNode, child_types, child_agreements, first_agreements, rest_agreements, nodes_of}
 use Rattle.nd_value.specs.Misfit.{has_shape, has_range, has_arm}
 use Rattle.text_grammar.specs.declared.version.Version.TheVariants as version
-use Rattle.text_grammar.specs.Written.{Piece, writes_octets, unit_in, units_in, list_pieces, array_counts, arm_pieces, node_pieces, values_pieces, count_piece, colon, pointer_pieces, text_pieces}
+use Rattle.text_grammar.specs.Written.{Piece, ListForm, InBrackets, AsBytes, AsLetters, list_form, unit_in, units_in, list_pieces, array_counts, arm_pieces, node_pieces, values_pieces, count_piece, colon, pointer_pieces, text_pieces}
 use Rattle.text_grammar.specs.Written.{hex_octet, hex_text, quoted_text, value_text}
 use Rattle.text_grammar.specs.Sound.{is_sound_node, IsSound}
 use Rattle.text_printer.specs.Texts.{byte_text, bytes_text, list_text, counts_text, struct_text, array_text, pipe_text, string_text, arm_text, pointer_text, node_text, texts_of, text_of}
@@ -42,7 +42,7 @@ range_of table x h =
 
 -- ## Bytes
 
-pub byte_type : (d : Option TypeDef) → writes_octets version.Two d ≡ true → d ≡ Some (def.Prim Byte)
+pub byte_type : (d : Option TypeDef) → printed_form d ≡ true → d ≡ Some (def.Prim Byte)
 byte_type (Some (def.Prim Byte)) h = refl
 byte_type _ h = cc
 
@@ -97,21 +97,21 @@ counted None true max offset p s i =
     subst (λ (x : List ℕ). IsItem (count_piece max ∷ colon ∷ count_piece offset ∷ colon ∷ p) x) (sym e) (numbered_item (pos max) _ _ inner)
 
 elements_are : (table : Table) (elem : ℕ) (ks : Trees) → (ags : List (List Agreement)) × ((n : ℕ) × (list_all (is_sound_node table) (nodes_of table (replicate (count ks) elem) ags n ks) ≡ true))
-    → writes_octets version.Two (type_at table elem) ≡ true → bytes_text ks ≡ hex_text (units_in ks)
+    → printed_form (type_at table elem) ≡ true → bytes_text ks ≡ hex_text (units_in ks)
 elements_are table elem ks k w = bytes_are table elem k.0 k.1.0 ks (byte_type (type_at table elem) w) k.1.1
 
 array_node : (table : Table) (d : Option TypeDef) (max offset : ℕ) (ks : Trees) (ps : List (List Piece)) (ss : List (List ℕ))
     → has_shape d (tree.Arr max offset) ks ≡ true → KidsSound table d (tree.Arr max offset) ks → AreItems ps ss
     → IsItem (node_pieces version.Two table d (tree.Arr max offset) ks ps) (array_text table d max offset ks ss)
 array_node table (Some (def.Array elem bound varying)) max offset ks ps ss h k a =
-    counted bound varying max offset _ _ (list_item (writes_octets version.Two (type_at table elem.0)) ks ps ss (elements_are table elem.0 ks k) a)
+    counted bound varying max offset _ _ (list_item (printed_form (type_at table elem.0)) ks ps ss (elements_are table elem.0 ks k) a)
 array_node table _ max offset ks ps ss h k a = cc
 
 pipe_node : (table : Table) (d : Option TypeDef) (ks : Trees) (ps : List (List Piece)) (ss : List (List ℕ))
     → has_shape d tree.Pipe ks ≡ true → KidsSound table d tree.Pipe ks → AreItems ps ss
     → IsItem (node_pieces version.Two table d tree.Pipe ks ps) (pipe_text table d ks ss)
 pipe_node table (Some (def.Pipe elem)) ks ps ss h k a =
-    list_item (writes_octets version.Two (type_at table elem.0)) ks ps ss (elements_are table elem.0 ks k) a
+    list_item (printed_form (type_at table elem.0)) ks ps ss (elements_are table elem.0 ks k) a
 pipe_node table _ ks ps ss h k a = cc
 
 string_node : (table : Table) (d : Option TypeDef) (max : ℕ) (octets : List ℕ) (ks : Trees) (ps : List (List Piece)) → has_shape d (tree.Text max octets) ks ≡ true

@@ -14,7 +14,7 @@ use Rattle.nd_value.specs.Tree as tree
 use Rattle.nd_value.specs.Tree.{Trees, Flat, Label, node, none, more, count, flat, unflat, unflat-of, take_trees, drop_trees}
 use Rattle.nd_value.specs.Nodes.{child_types}
 use Rattle.text_grammar.specs.declared.version.Version.TheVariants as version
-use Rattle.text_grammar.specs.Written.{writes_octets}
+use Rattle.text_grammar.specs.Written.{ListForm, InBrackets, AsBytes, AsLetters, list_form}
 use Rattle.text_printer.specs.Texts.{separator, listed, member_texts, texts_of, text_of, node_text, counts_text, array_text, list_text, bytes_text, byte_text, arm_text}
 use Rattle.text_printer.specs.Walks.{Begins, Writes, WritesBytes, HasNext, first_text, nodes_digits}
 use Rattle.text_printer.proofs.Sound.{byte_type}
@@ -151,11 +151,11 @@ union_written table d tag types ks text text1 text2 text' w w' e e1 e2 h =
 -- an array, its counts and then its elements
 pub array_written : (table : Table) (d : Option TypeDef) (elem : TypeId) (bound : Option ℕ) (varying : Bool) (max offset n : ℕ) (text text1 text' : List ℕ) (w w' : Trees)
     → d ≡ Some (def.Array elem bound varying) → HasNext n w → text1 ≡ text ++ counts_text bound varying max offset
-    → Writes table (replicate n elem.0) (list_text (writes_octets version.Two (type_at table elem.0)) (take_trees n w)) text1 w text' w'
+    → Writes table (replicate n elem.0) (list_text (printed_form (type_at table elem.0)) (take_trees n w)) text1 w text' w'
     → Writes table (child_types d (tree.Arr max offset) (take_trees n w)) (array_text table d max offset (take_trees n w)) text w text' w'
 array_written table d elem bound varying max offset n text text1 text' w w' e k e1 h =
     let ks = take_trees n w in
-    let octets = writes_octets version.Two (type_at table elem.0) in
+    let octets = printed_form (type_at table elem.0) in
     let counts = counts_text bound varying max offset in
     subst (λ (x : Option TypeDef). Writes table (child_types x (tree.Arr max offset) ks) (array_text table x max offset ks) text w text' w') (sym e)
     (subst (λ m. Writes table (replicate m elem.0) (λ xs. counts ++ list_text octets ks xs) text w text' w') (sym k)
@@ -188,9 +188,9 @@ digits_written table elem n text text1 text2 text' w w' e a h z b =
       sym (unflat-of w') ∙ ap unflat (h.1 ∙ r.1) ∙ unflat-of (drop_trees n w) ∙ ap (λ m. drop_trees m w) (sym (length-replicate n elem)),
     )
 
-pub bytes_written : (table : Table) (elem n : ℕ) (text text1 text2 text' : List ℕ) (w w' : Trees) → writes_octets version.Two (type_at table elem) ≡ true → text1 ≡ text ++ codes "x\""
+pub bytes_written : (table : Table) (elem n : ℕ) (text text1 text2 text' : List ℕ) (w w' : Trees) → printed_form (type_at table elem) ≡ true → text1 ≡ text ++ codes "x\""
     → WritesBytes n text1 w text2 w' → text' ≡ text2 ++ codes "\""
-    → Writes table (replicate n elem) (list_text (writes_octets version.Two (type_at table elem)) (take_trees n w)) text w text' w'
+    → Writes table (replicate n elem) (list_text (printed_form (type_at table elem)) (take_trees n w)) text w text' w'
 bytes_written table elem n text text1 text2 text' w w' e a h z =
     subst (λ b. Writes table (replicate n elem) (list_text b (take_trees n w)) text w text' w') (sym e)
     (digits_written table elem n text text1 text2 text' w w' (byte_type (type_at table elem) e) a h z)

@@ -27,8 +27,8 @@ use Rattle.nd_value.proofs.Apart.{all_left, all_right, all_append}
 use Rattle.nd_value.proofs.NodeFacts.{IsFit}
 use Rattle.nd_grammar.proofs.RenumberedEntries.{count_same, child_types_same}
 use Rattle.text_grammar.specs.declared.version.Version.{Version}
-use Rattle.text_grammar.specs.Written.{writes_octets}
-use Rattle.text_grammar.specs.Reads.{is_octet_number, are_octets, may_be_elements, has_text_form}
+use Rattle.text_grammar.specs.Written.{ListForm, InBrackets, AsBytes, AsLetters, list_form}
+use Rattle.text_grammar.specs.Reads.{is_unit_number, are_units, may_be_elements, has_text_form}
 use Rattle.text_grammar.proofs.Bytes.{bytes_alone}
 use Rattle.value_text.specs.Short.{is_short}
 
@@ -182,29 +182,30 @@ module _ (table : Table) (small : list_all has_small_values table ≡ true) wher
         ranged c h = grind (arith, nat_tests, h)
 
     -- bytes are octets
-    one_octet : (l : Label) (ks : Trees) → has_shape (Some (def.Prim Byte)) l ks ≡ true → has_range is_value table (Some (def.Prim Byte)) l ≡ true → is_octet_number (renumbered_label m l) ≡ true
+    one_octet : (l : Label) (ks : Trees) → has_shape (Some (def.Prim Byte)) l ks ≡ true → has_range is_value table (Some (def.Prim Byte)) l ≡ true → is_unit_number is_octet (renumbered_label m l) ≡ true
     one_octet (tree.Num (pos b)) ks s r = grind (arith, ints, nat_tests, r)
     one_octet (tree.Num (negsuc b)) ks s r = grind (arith, ints, nat_tests, r)
     one_octet l ks s r = cc
 
     octets_fine : (t : ℕ) → type_at table t ≡ Some (def.Prim Byte) → (ags : List (List Agreement)) (n : ℕ) (ks : Trees) → AllByRecursion Fine (nodes_of table (replicate (count ks) t) ags n ks)
-        → are_octets (renumbered m ks) ≡ true
+        → are_units is_octet (renumbered m ks) ≡ true
     octets_fine t e ags n none a = refl
     octets_fine t e ags n (more (node l us) ks) a =
         let d : Option TypeDef = type_at table t in
         let f : IsFit table g t l us = a.0.0 in
         let K : List TypedNode = nodes_of table (child_types d l us) (child_agreements d us) (n + 1) us in
         let R : List TypedNode = nodes_of table (replicate (count ks) t) (rest_agreements ags) (n + 1 + node_count us) ks in
-        and_from (is_octet_number (renumbered_label m l)) (are_octets (renumbered m ks))
+        and_from (is_unit_number is_octet (renumbered_label m l)) (are_units is_octet (renumbered m ks))
         (one_octet l us (subst (λ (x : Option TypeDef). has_shape x l us ≡ true) e f.shape) (subst (λ (x : Option TypeDef). has_range is_value table x l ≡ true) e f.range))
         (octets_fine t e (rest_agreements ags) (n + 1 + node_count us) ks (all_right Fine K R a.1))
 
     list_fine : (t : ℕ) (ags : List (List Agreement)) (n : ℕ) (ks : Trees) → AllByRecursion Fine (nodes_of table (replicate (count ks) t) ags n ks)
         → may_be_elements v (type_at table t) (renumbered m ks) ≡ true
-    list_fine t ags n ks a = by (writes_octets v (type_at table t)) refl where
-      by : (b : Bool) → writes_octets v (type_at table t) ≡ b → cond b (are_octets (renumbered m ks)) true ≡ true
-      by true e = octets_fine t (bytes_alone v (type_at table t) e) ags n ks a
-      by false e = refl
+    list_fine t ags n ks a = by (list_form v (type_at table t)) refl where
+      by : (b : ListForm) → list_form v (type_at table t) ≡ b → cond b (are_units is_octet (renumbered m ks)) true ≡ true
+      by AsBytes e = octets_fine t (bytes_alone v (type_at table t) e) ags n ks a
+      by AsLetters e = octets_fine t (bytes_alone v (type_at table t) e) ags n ks a
+      by InBrackets e = refl
 
     elements_fine : (d : Option TypeDef) (l : Label) (ks : Trees) → has_shape d l ks ≡ true → (ags : List (List Agreement)) (n : ℕ) → AllByRecursion Fine (nodes_of table (child_types d l ks) ags n ks)
         → FineElements v table d (renumbered m ks)

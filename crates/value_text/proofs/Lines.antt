@@ -28,10 +28,10 @@ use Rattle.text_grammar.specs.declared.version.Version.{Version}
 use Rattle.text_grammar.specs.declared.version.Version.TheVariants as version
 use Rattle.text_grammar.specs.declared.TheConstants.{TEXT_LIMIT}
 use Rattle.text_grammar.specs.Tokens.{Token, Word, Number, Cell, Str, Bytes, Letters, Mark, is_bytes, is_mark}
-use Rattle.text_grammar.specs.Written.{Piece, Name, Other, word, token_of, separated, enclosed, named, members, unit_in, units_in, writes_octets, list_pieces, array_counts, node_pieces}
+use Rattle.text_grammar.specs.Written.{Piece, Name, Other, word, token_of, separated, enclosed, named, members, unit_in, units_in, ListForm, InBrackets, AsBytes, AsLetters, list_form, list_pieces, array_counts, node_pieces}
 use Rattle.text_grammar.specs.Written.{values_pieces, value_pieces, version_number, side_word, root_name, head_lines, root_lines, cell_lines, graph_lines, graph_tokens, is_run, tokens_text}
 use Rattle.text_grammar.specs.Written.{graph_text}
-use Rattle.text_grammar.specs.Reads.{has_maximum, has_offset, may_be_elements, is_octet_number, are_octets, has_text_form, IsReadable, ReadsAs}
+use Rattle.text_grammar.specs.Reads.{has_maximum, has_offset, may_be_elements, is_unit_number, are_units, has_text_form, IsReadable, ReadsAs}
 use Rattle.text_grammar.specs.Settled.{has_bytes, IsSettled, is_simple}
 use Rattle.text_grammar.specs.Values.{have_forms}
 use Rattle.text_grammar.proofs.Forms.{Form, form_of, a_number, an_enum, a_struct, an_array, a_bound_text, a_text, a_union, a_null, a_pointer, a_context, a_pipe}
@@ -104,25 +104,26 @@ module _ (v : Version) where
   count_kept : (n : ℕ) (ps : List Piece) → n < 2 ^ 32 → KeptPieces v ps → KeptPieces v (Other (Number (pos n)) ∷ Other (Mark 58) ∷ ps)
   count_kept n ps few k = kept_more v (Number (pos n)) (Mark 58 ∷ map token_of ps) (omega (arith, few)) refl (λ x. cc) refl (kept_more v (Mark 58) (map token_of ps) refl refl (λ x. cc) refl k)
 
-  octets_are : (ks : Trees) → are_octets ks ≡ true → list_all is_octet (units_in ks) ≡ true
+  octets_are : (ks : Trees) → are_units is_octet ks ≡ true → list_all is_octet (units_in ks) ≡ true
   octets_are none h = refl
   octets_are (more (node l us) ks) h =
-      let p = and_parts (is_octet_number l) (are_octets ks) h in
+      let p = and_parts (is_unit_number is_octet l) (are_units is_octet ks) h in
       and_from (is_octet (unit_in l)) (list_all is_octet (units_in ks)) (one l p.0) (octets_are ks p.1)
     where
-      one : (l : Label) → is_octet_number l ≡ true → is_octet (unit_in l) ≡ true
+      one : (l : Label) → is_unit_number is_octet l ≡ true → is_octet (unit_in l) ≡ true
       one (tree.Num (pos b)) h = h
       one l h = cc
 
-  two_alone : (u : Version) (d : Option TypeDef) → writes_octets u d ≡ true → has_bytes u ≡ true
+  two_alone : (u : Version) (d : Option TypeDef) → list_form u d ≡ true → has_bytes u ≡ true
   two_alone version.Two d h = refl
   two_alone version.One d h = cc
 
-  list_kept : (d : Option TypeDef) (ks : Trees) (values : List (List Piece)) → may_be_elements v d ks ≡ true → AllKept values → KeptPieces v (list_pieces (writes_octets v d) ks values)
-  list_kept d ks values h k = by (writes_octets v d) refl h where
-    by : (b : Bool) → writes_octets v d ≡ b → cond b (are_octets ks) true ≡ true → KeptPieces v (list_pieces b ks values)
-    by true e h = one_kept (Bytes (units_in ks)) (octets_are ks h) refl (λ x. two_alone v d e)
-    by false e h = enclosed_kept 91 93 values refl refl refl refl k
+  list_kept : (d : Option TypeDef) (ks : Trees) (values : List (List Piece)) → may_be_elements v d ks ≡ true → AllKept values → KeptPieces v (list_pieces (list_form v d) ks values)
+  list_kept d ks values h k = by (list_form v d) refl h where
+    by : (b : ListForm) → list_form v d ≡ b → cond b (are_units is_octet ks) true ≡ true → KeptPieces v (list_pieces b ks values)
+    by AsBytes e h = one_kept (Bytes (units_in ks)) (octets_are ks h) refl (λ x. two_alone v d e)
+    by AsLetters e h = one_kept (Letters (units_in ks)) (octets_are ks h) refl (λ x. two_alone v d e)
+    by InBrackets e h = enclosed_kept 91 93 values refl refl refl refl k
 
   array_kept : (bound : Option ℕ) (varying : Bool) (max offset : ℕ) (ks : Trees) (ps : List Piece) → has_maximum bound varying max ks ≡ true → has_offset varying offset ≡ true → KeptPieces v ps
       → KeptPieces v (array_counts bound varying max offset ++ ps)
@@ -137,7 +138,7 @@ module _ (v : Version) where
   node_kept table _ _ _ values (an_enum vs z) h w k = one_kept (Number z) (ltb-true (unsigned_abs z) (10 ^ 20) h) refl (λ x. cc)
   node_kept table _ _ _ values (a_struct fs ks many) h w k = enclosed_kept 123 125 (members fs values) refl refl refl refl (members_kept fs values w k)
   node_kept table _ _ _ values (an_array elem bound varying max offset ks m o b) h w k =
-      array_kept bound varying max offset ks (list_pieces (writes_octets v (type_at table elem.0)) ks values) m o (list_kept (type_at table elem.0) ks values b k)
+      array_kept bound varying max offset ks (list_pieces (list_form v (type_at table elem.0)) ks values) m o (list_kept (type_at table elem.0) ks values b k)
   node_kept table _ _ _ values (a_bound_text elem bound octets o) h w k = one_kept (Str octets) o refl (λ x. cc)
   node_kept table _ _ _ values (a_text elem max octets m o) h w k = count_kept max (Other (Str octets) ∷ []) (ltb-true max (2 ^ 32) m) (one_kept (Str octets) o refl (λ x. cc))
   node_kept table _ _ _ [] (a_union tag e a d z ks many) h w k =
