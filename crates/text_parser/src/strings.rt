@@ -95,8 +95,7 @@ fn hex_quad(text: &[u8]) -> Option<(u16, &[u8])>
 {
     match text {
         [a, b, c, d, rest @ ..]
-            if (is_hex_digit(*a) && is_hex_digit(*b)) && (is_hex_digit(*c) && is_hex_digit(*d)) =>
-        {
+            if (is_hex_digit(*a) && is_hex_digit(*b)) && (is_hex_digit(*c) && is_hex_digit(*d)) => {
             Some((unit_of(*a, *b, *c, *d), rest))
         }
         _ => None,

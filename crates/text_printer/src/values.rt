@@ -11,8 +11,8 @@ ghost use Rattle.text_printer.specs.Texts.{pipe_text, arm_text};
 
 use crate::digits::{append_byte, append_letter, append_number};
 use crate::forms::{
-    append_context, append_counts, append_name, append_pointer, append_separator, append_string,
-    ListForm, arm_type, list_form,
+    ListForm, append_context, append_counts, append_name, append_pointer, append_separator,
+    append_string, arm_type, list_form,
 };
 use nd_base::{Memory, Octets};
 use nd_types::{Fields, TypeDef, TypeId, Types};

@@ -12,8 +12,8 @@ ghost use Rattle.text_printer.specs.Walks.{Writes, WritesSome, WritesBytes, Writ
 
 use crate::digits::{append_byte, append_letter, append_number};
 use crate::forms::{
-    append_context, append_counts, append_name, append_pointer, append_separator, append_string,
-    ListForm, arm_type, list_form,
+    ListForm, append_context, append_counts, append_name, append_pointer, append_separator,
+    append_string, arm_type, list_form,
 };
 use crate::rows::{append_letter_row, append_numbers, append_row};
 use nd_base::{Memory, Octets};
