@@ -46,6 +46,10 @@ class NotFilled(Exception):
     """What the bindings cannot be given."""
 
 
+class Letters(List[int]):
+    """Letters, after which libndr may write a zero if their count has room for it."""
+
+
 @dataclass(frozen=True)
 class Tagged:
     """A union: its tag and the value of its arm."""
@@ -185,7 +189,7 @@ class Filler:
         units = list(struct.unpack(f"<{len(given)}H", given.encode("utf-16-le"))) if wide else [ord(c) for c in given]
         if level.string and not wide:
             return given, given
-        return given, units + ([0] if level.string else [])
+        return given, Letters(units + ([0] if level.string else []))
 
     def base(self, base: Base, each: Field, value: Callable[[str], int]) -> Tuple[Any, Any]:
         """A value without levels."""
@@ -342,6 +346,8 @@ def difference(wanted: Any, found: Any, path: str) -> Optional[str]:
         lost = [name for name in wanted if not name.startswith("__")]
         return None if len(lost) <= len(found) else f"{path}: members {list(wanted)}, found {list(found)}"
     if isinstance(wanted, list) and isinstance(found, list):
+        if isinstance(wanted, Letters) and found == [*wanted, 0]:
+            return None
         if len(wanted) != len(found):
             return f"{path}: {len(wanted)} elements, found {len(found)}"
         return next((d for i, (a, b) in enumerate(zip(wanted, found)) for d in [difference(a, b, f"{path}[{i}]")] if d), None)
