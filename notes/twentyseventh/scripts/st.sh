@@ -1,0 +1,1 @@
+date; cat /work/c/sched/state; tail -${1:-10} /work/c/sched/log; uptime; tail -4 /work/c/talk.txt | cut -c1-400; ps -eo pid,etimes,pcpu,rss,args --sort=-pcpu | grep -E "rattle (check|build)" | grep -v grep | awk '{printf "%s %s %s %s ",$1,$2,$3,$4/1024; for(i=6;i<=8;i++) printf "%s ",$i; print ""}' | head -12
